@@ -1,0 +1,4 @@
+pub mod Grows
+pub mod Inputs
+pub mod Pieces
+pub mod QueryWords

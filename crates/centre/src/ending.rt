@@ -1,0 +1,90 @@
+//! How a run ends.
+use exact_time::OutOfMemory;
+use mseed_header::RecordFault;
+
+/// A word of `select` that has a value.
+#[derive(Clone, Copy, Debug, PartialEq, Eq)]
+pub enum Word {
+    Network,
+    Station,
+    Location,
+    Channel,
+    Start,
+    End,
+}
+
+/// Why the words and the input give no answer: they determine it.
+#[derive(Clone, Copy, Debug, PartialEq, Eq)]
+pub enum Refusal {
+    /// The words are no command.
+    UnknownCommand,
+    /// The value of this word can't be read.
+    Value(Word),
+    /// The start is after the end.
+    Order,
+    /// The record at this offset, in bytes, is the first that is refused.
+    Record { at: usize, fault: RecordFault },
+    /// No record is chosen.
+    NoData,
+    /// The answer has more bytes than the limit.
+    TooLarge { bytes: u64, limit: u64 },
+    /// The input has more than [`crate::MAX_INPUT`] bytes.
+    InputTooLong,
+}
+
+/// Why a run stopped before it was done.
+#[derive(Clone, Copy, Debug, PartialEq, Eq)]
+pub enum Stop {
+    Refused(Refusal),
+    /// The source failed.
+    ReadFault,
+    /// The sink failed.
+    WriteFault,
+    OutOfMemory,
+}
+
+impl Refusal {
+    ghost use Rattle.std.specs.Prelude.{◌≡◌};
+    ghost use Rattle.centre.specs.Status.{status_of_refusal};
+
+    /// The exit status.
+    pub fn status(self) -> u8
+        ensures { result ≡ status_of_refusal self }
+    {
+        match self {
+            Refusal::UnknownCommand => 1,
+            Refusal::Value(_) | Refusal::Order | Refusal::Record { .. } => 2,
+            Refusal::NoData => 3,
+            Refusal::TooLarge { .. } => 4,
+            Refusal::InputTooLong => 10,
+        }
+    }
+}
+
+impl Stop {
+    ghost use Rattle.std.specs.Prelude.{◌≡◌};
+    ghost use Rattle.centre.specs.Status.{status_of};
+
+    /// The exit status.
+    pub fn status(self) -> u8
+        ensures { result ≡ status_of self }
+    {
+        match self {
+            Stop::Refused(refusal) => refusal.status(),
+            Stop::ReadFault => 5,
+            Stop::WriteFault => 6,
+            Stop::OutOfMemory => 70,
+        }
+    }
+}
+
+impl From<OutOfMemory> for Stop {
+    ghost use Rattle.std.specs.Prelude.{◌≡◌};
+    ghost use Rattle.centre.specs.declared.ending.Stop.TheVariants.{OutOfMemory as NoMemory};
+
+    ghost from_gives = { λ _ e. e ≡ NoMemory };
+
+    fn from(_error: OutOfMemory) -> Stop {
+        Stop::OutOfMemory
+    }
+}

@@ -1,0 +1,128 @@
+//! A source and a sink in memory, which fail at the calls that they are told.
+ghost use Rattle.std.specs.Prelude.{◌≡◌, [], List, Some, take, min, length};
+ghost use Rattle.std.specs.List.{flat_map};
+ghost use Rattle.std.specs.Option.{option_map};
+ghost use Rattle.centre.specs.Memory.{bytes_left, told};
+
+use crate::streams::{Sink, Source};
+use exact_time::{Bytes, Failed, Many};
+use std::alloc::Global;
+
+/// Gives its pieces in order, of one piece a call, and fails at the calls numbered in `fails`, from 1.
+#[derive(Drop)]
+pub struct MemorySource {
+    pieces: Many<Bytes>,
+    fails: Many<u64>,
+    calls: u64,
+    faults: u64,
+    // The piece that is next, and how many of its bytes are gone.
+    at: usize,
+    from: usize,
+}
+
+impl MemorySource {
+    /// A source of these pieces, which fails at these calls.
+    pub fn new(pieces: Many<Bytes>, fails: Many<u64>) -> Self
+        ensures { ⟦<MemorySource as Source>⟧.left result ≡ Some (flat_map (λ piece. piece) pieces) }
+    {
+        MemorySource {
+            pieces,
+            fails,
+            calls: 0,
+            faults: 0,
+            at: 0,
+            from: 0,
+        }
+    }
+}
+
+// Copies as many bytes as there are and as fit.
+fn give(bytes: &[u8], into: &mut [u8]) -> usize
+    ensures count { result ≡ min (length bytes.now) (length into.old) }
+    ensures given { take result into.new ≡ take result bytes.now }
+{
+    let count = bytes.len().min(into.len());
+    into[..count].copy_from_slice(&bytes[..count]);
+    count
+}
+
+impl Source for MemorySource {
+    ghost left = { λ s. Some (bytes_left s.pieces s.at s.from) };
+
+    ghost faults = { λ s. s.faults };
+
+    fn take(&mut self, into: &mut [u8]) -> Result<usize, Failed> {
+        self.calls = self.calls.saturating_add(1);
+        if self.fails.as_slice().contains(&self.calls) {
+            self.faults = self.faults.saturating_add(1);
+            return Err(Failed);
+        }
+        'spent: while self.at < self.pieces.len() {
+            let piece = self.pieces.as_slice()[self.at].as_slice();
+            if self.from < piece.len() {
+                let count = give(&piece[self.from..], into);
+                self.from += count;
+                return Ok(count);
+            }
+            self.from -= piece.len();
+            self.at += 1;
+        }
+        Ok(0)
+    }
+}
+
+/// Takes whole pieces, and fails at the calls numbered in `fails`, from 1. Where memory doesn't
+/// suffice for a piece, it takes the piece and from then on doesn't tell what was written.
+#[derive(Drop)]
+pub struct MemorySink {
+    bytes: Bytes,
+    // Whether a piece was lost for want of memory.
+    lost: bool,
+    fails: Many<u64>,
+    calls: u64,
+    faults: u64,
+}
+
+impl MemorySink {
+    /// A sink to which nothing was written yet.
+    pub fn new(alloc: Global, fails: Many<u64>) -> Self
+        ensures { ⟦<MemorySink as Sink>⟧.written result ≡ Some [] }
+    {
+        MemorySink {
+            bytes: Bytes::new(alloc),
+            lost: false,
+            fails,
+            calls: 0,
+            faults: 0,
+        }
+    }
+
+    /// What was written, unless a piece was lost.
+    pub fn told(&self) -> Option<&[u8]>
+        ensures { option_map (λ s. s.now) result ≡ ⟦<MemorySink as Sink>⟧.written self.now }
+    {
+        if self.lost {
+            None
+        } else {
+            Some(self.bytes.as_slice())
+        }
+    }
+}
+
+impl Sink for MemorySink {
+    ghost written = { λ s. told s.bytes s.lost };
+
+    ghost faults = { λ s. s.faults };
+
+    fn put(&mut self, piece: &[u8]) -> Result<usize, Failed> {
+        self.calls = self.calls.saturating_add(1);
+        if self.fails.as_slice().contains(&self.calls) {
+            self.faults = self.faults.saturating_add(1);
+            return Err(Failed);
+        }
+        if self.bytes.extend(piece).is_err() {
+            self.lost = true;
+        }
+        Ok(piece.len())
+    }
+}

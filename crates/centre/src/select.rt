@@ -1,0 +1,57 @@
+//! The data body of a query over an input of records.
+ghost use Rattle.std.specs.Prelude.{◌≡◌, ◌≤◌, ◌<◌, ◌^◌, false, [], length, IfOk, OnOk};
+ghost use Rattle.mseed_header.specs.Records.{AreRecords};
+ghost use Rattle.dataselect.specs.Rows.{held_rows};
+ghost use Rattle.centre.specs.Selected.{IsBodyOf, epoch};
+
+use crate::MAX_BYTES;
+use crate::ending::{Refusal, Stop};
+use dataselect::{All, DataQuery, DataRefusal, PlainShelf, Shelf, answer};
+use exact_time::{Bytes, Many, Moment, OutOfMemory};
+use mseed_header::{CutFault, Row, cut_records};
+use std::alloc::Global;
+
+// The input's records, as rows of entry 0 at the moment 0.
+fn rows_of(alloc: Global, input: &[u8]) -> Result<Many<Row>, Stop>
+    requires { length input.now < 2 ^ 32 }
+    ensures { IfOk result (λ rows. AreRecords input.now 0 epoch rows) }
+{
+    match cut_records(alloc, input, 0, Moment { micros: 0 }) {
+        Ok(rows) => Ok(rows),
+        Err(CutFault::Bad { at, fault }) => Err(Stop::Refused(Refusal::Record { at, fault })),
+        Err(CutFault::OutOfMemory) => Err(Stop::OutOfMemory),
+    }
+}
+
+// Puts the rows on an empty shelf, in order.
+fn shelve<S: Shelf>(shelf: &mut S, rows: Many<Row>) -> Result<(), OutOfMemory>
+    requires empty { S.rows shelf.old ≡ [] }
+    requires few { length rows ≤ 2 ^ 32 }
+    ensures { OnOk result (S.rows shelf.new ≡ held_rows rows) }
+{
+    'rows: for row in rows.into_vec() {
+        shelf.insert(row)?;
+    }
+    Ok(())
+}
+
+/// The data body of a query over an input of plain records end to end.
+pub fn body_of(alloc: Global, query: &DataQuery, input: &[u8]) -> Result<Bytes, Stop>
+    requires few { length input.now < 2 ^ 32 }
+    requires minimum { query.now.minimum ≡ 0 }
+    requires longest { query.now.longest ≡ false }
+    ensures { IfOk result (λ body. IsBodyOf query.now input.now body) }
+{
+    let rows = rows_of(alloc, input)?;
+    let mut shelf = PlainShelf::new(alloc);
+    shelve(&mut shelf, rows)?;
+    match answer(alloc, &shelf, &All, query, MAX_BYTES) {
+        Ok(body) => Ok(body),
+        Err(DataRefusal::Empty) => Err(Stop::Refused(Refusal::NoData)),
+        Err(DataRefusal::TooLarge(bytes)) => Err(Stop::Refused(Refusal::TooLarge {
+            bytes,
+            limit: MAX_BYTES,
+        })),
+        Err(DataRefusal::OutOfMemory) => Err(Stop::OutOfMemory),
+    }
+}

@@ -1,0 +1,3 @@
+pub mod MatchingSteps
+pub mod Decides
+pub mod PatternTexts

@@ -1,0 +1,5 @@
+pub mod Bodies
+pub mod Held
+pub mod Inside
+pub mod Orders
+pub mod Steps

@@ -1,0 +1,5 @@
+pub mod Query
+pub mod Order
+pub mod Rows
+pub mod Chosen
+pub mod DataBody

@@ -1,0 +1,52 @@
+//! What a shelf of rows is, however it is kept.
+ghost use Rattle.std.specs.Prelude.{◌≡◌, ℕ, ◌+◌, ◌^◌, ◌<◌, ◌≤◌, false, List, length, IfOk, OnOk, OnErr, Some};
+ghost use Rattle.std.specs.List.{slice_get};
+ghost use Rattle.mseed_header.specs.declared.row.Row.{Row};
+ghost use Rattle.dataselect.specs.Rows.{inserted_as, with_row};
+ghost use Rattle.dataselect.specs.Chosen.{chosen_places};
+
+use crate::query::DataQuery;
+use crate::sight::Sight;
+use exact_time::{Many, OutOfMemory};
+use mseed_header::Row;
+
+/// What became of a row that was inserted.
+#[derive(Clone, Copy, Debug, PartialEq, Eq)]
+pub enum Inserted {
+    /// The row was put at the end.
+    New,
+    /// An earlier row has the same bytes; nothing changed.
+    Duplicate,
+}
+
+/// Rows without doubles, at most 2^32 of them.
+pub trait Shelf {
+    /// The rows in order of insertion.
+    ghost rows: { Self → List Row };
+
+    /// How many rows there are.
+    fn len(&self) -> usize
+        ensures { result ≡ length (rows self.now) };
+
+    /// The row at a place, counted from 0.
+    fn row(&self, i: usize) -> &Row
+        requires { i < length (rows self.now) }
+        ensures { slice_get (rows self.now) i ≡ Some result.now };
+
+    /// Puts a row at the end, unless an earlier row has its bytes.
+    fn insert(&mut self, row: Row) -> Result<Inserted, OutOfMemory>
+        requires { length (rows self.old) < 2 ^ 32 }
+        ensures answer { IfOk result (λ answer. answer ≡ inserted_as (rows self.old) row) }
+        ensures ok { OnOk result (rows self.new ≡ with_row (rows self.old) row) }
+        ensures err { OnErr result (rows self.new ≡ rows self.old) };
+
+    /// The places of the chosen rows, in their order. The query asks for no least length and not for
+    /// the longest segments.
+    fn choose<V: Sight>(&self, sight: &V, query: &DataQuery) -> Result<Many<usize>, OutOfMemory>
+        requires minimum { query.now.minimum ≡ 0 }
+        requires longest { query.now.longest ≡ false }
+        ensures { IfOk result (λ places. places ≡ chosen_places (V.seen sight.now) query.now (rows self.now)) };
+
+    /// No shelf holds more rows.
+    ghost few: { (shelf : Self) → length (rows shelf) ≤ 2 ^ 32 };
+}

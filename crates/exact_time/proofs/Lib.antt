@@ -1,0 +1,3 @@
+pub mod Calendar
+pub mod Lowest
+pub mod Spellings

@@ -1,0 +1,5 @@
+pub mod BTime
+pub mod Causes
+pub mod MomentText
+pub mod Rate
+pub mod SampleTime

@@ -1,0 +1,30 @@
+//! Exact times, rates and small growing values, under every other crate.
+//!
+//! What the crates above use: a sample's time is an exact fraction, and [`cmp_sample_time`] compares
+//! it with a moment without rounding (`specs/SampleTime.antt`). Texts of times are read by
+//! [`Moment::read`] (`specs/MomentText.antt`; FDSN Web Service Specifications 1.2, time values), the
+//! start of a record by [`btime`] (`specs/BTime.antt`; SEED 2.4, chapter 3, the BTIME structure), its
+//! rate by [`Ratio::of`] (`specs/Rate.antt`; SEED 2.4, fixed section of data header, fields 10 and 11).
+//!
+//! [`Bytes`], [`Text`] and [`Many`] are seen in contracts as their lists. [`Failed`] is the one error
+//! of every trait of the outside; `specs/Causes.antt` says when it may come.
+#![tactic(auto)]
+
+mod civil;
+mod compare;
+mod error;
+mod fields;
+mod growing;
+mod moment;
+mod ratio;
+mod reading;
+mod sample;
+
+pub use civil::btime;
+pub use compare::cmp_sample_time;
+pub use error::{Failed, OutOfMemory};
+pub use fields::BTime;
+pub use growing::{Bytes, Many, Text};
+pub use moment::{Moment, TimeFault};
+pub use ratio::Ratio;
+pub use sample::SampleTime;

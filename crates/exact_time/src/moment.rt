@@ -1,0 +1,51 @@
+use crate::reading::{civil_time_in, moment_of};
+use std::error::Error;
+use std::fmt;
+
+/// A moment: microseconds since 1970-01-01T00:00:00.
+#[derive(Clone, Copy, Debug, PartialEq, Eq, PartialOrd, Ord)]
+pub struct Moment {
+    pub micros: i64,
+}
+
+/// Why a text or the fields of a header are no moment, in the order of the tests.
+#[derive(Clone, Copy, Debug, PartialEq, Eq)]
+pub enum TimeFault {
+    /// The text has another shape.
+    Form,
+    /// There is no such year, day or time of day.
+    Range,
+}
+
+impl fmt::Display for TimeFault {
+    fn fmt<W: fmt::Write>(&self, f: &mut fmt::Formatter<W>) -> fmt::Result {
+        f.write_str(match self {
+            TimeFault::Form => "Form",
+            TimeFault::Range => "Range",
+        })
+    }
+}
+
+impl Error for TimeFault {}
+
+impl Moment {
+    ghost use Rattle.std.specs.Prelude.{◌≡◌, ◌↔◌, IfOk, IsErrOf};
+    ghost use Rattle.exact_time.specs.MomentText.{IsMoment, IsMomentText, IsCivil};
+    ghost use Rattle.exact_time.specs.declared.reading.CivilTime.{CivilTime};
+
+    /// The moment that a text names: `YYYY-MM-DD`, or `YYYY-MM-DDThh:mm:ss` with an optional point
+    /// and 1 to 6 decimals and an optional final `Z`, of the years 1900 to 2599.
+    pub fn read(text: &[u8]) -> Result<Moment, TimeFault>
+        ensures value { IfOk result (λ m. IsMoment text.now m.micros) }
+        ensures form { IsErrOf result TimeFault.Form ↔ ((t : CivilTime) → ¬ (IsMomentText text.now t)) }
+        ensures range { IsErrOf result TimeFault.Range ↔ ((t : CivilTime) × IsMomentText text.now t × (¬ (IsCivil t))) }
+    {
+        let Some(time) = civil_time_in(text) else {
+            return Err(TimeFault::Form);
+        };
+        let Some(moment) = moment_of(time) else {
+            return Err(TimeFault::Range);
+        };
+        Ok(moment)
+    }
+}

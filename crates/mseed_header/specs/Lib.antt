@@ -1,0 +1,6 @@
+pub mod CodeField
+pub mod Fields
+pub mod Header
+pub mod Quality
+pub mod Records
+pub mod Times
