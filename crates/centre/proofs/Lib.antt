@@ -1,3 +1,4 @@
+pub mod Examples
 pub mod Grows
 pub mod Inputs
 pub mod Pieces

@@ -1,3 +1,4 @@
-pub mod MatchingSteps
 pub mod Decides
+pub mod Examples
+pub mod MatchingSteps
 pub mod PatternTexts

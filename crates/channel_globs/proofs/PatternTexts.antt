@@ -1,6 +1,9 @@
 -- Steps of the reader of a pattern list.
-use Rattle.std.proofs.Common.{◌≡◌, ℕ, ◌+◌, ◌<◌, ◌≤◌, ◌==◌, List, [], ◌∷◌, ◌++◌, length, take, drop, get_or, map, Ok, refl, sym, ap, ◌∙◌}
+use Rattle.std.proofs.Common.{◌≡◌, Bool, IsTrue, ◌↔◌, ℕ, ◌+◌, ◌<◌, ◌≤◌, ◌==◌, List, [], ◌∷◌, ◌++◌, length, take, drop, get_or, map, Ok, refl, sym, ap, ◌∙◌, arith}
 use Rattle.std.specs.List.{slice_split, count_by}
+use Rattle.std.specs.Str.{bytes_eq}
+use Rattle.std.proofs.lemmas.Slice.Eq.{bytes_eq-Decides}
+use Rattle.channel_globs.specs.Matching.{star}
 use Rattle.std.proofs.lemmas.List.{map-append, take-append-drop, drop_more, length-map}
 use Rattle.std.proofs.lemmas.List.Splits.{length-slice_split}
 use Rattle.channel_globs.specs.declared.nslc.Part.{Part}
@@ -24,3 +27,14 @@ words_are f g (x ∷ xs) ys e = rw (← e) (ap (λ r. g (f x) ∷ r) (words_are 
 
 pub words_at : {X : Type 0} (f : X → List ℕ) (xs : List X) (i : ℕ) (d : X) → i < length xs → map f xs ≡ map f (take i xs) ++ f (get_or xs i d) ∷ map f (drop (i + 1) xs)
 words_at f xs i d lt = ap (map f) (sym (take-append-drop i xs) ∙ ap (λ r. take i xs ++ r) (drop_more xs i d lt)) ∙ map-append f (take i xs) (get_or xs i d ∷ drop (i + 1) xs)
+
+-- the one item of a list is the star
+pub only_star : (items : List (List ℕ)) (item text : List ℕ) (r : Bool) → length items ≡ 1 → item ≡ get_or items 0 item → text ≡ item → r ≡ bytes_eq text (star ∷ [])
+    → IsTrue r ↔ (items ≡ (star ∷ []) ∷ [])
+only_star [] item text r one at is tested = absurd (omega arith)
+only_star (x ∷ []) item text r one at is tested =
+    let test = bytes_eq-Decides text (star ∷ []) in (
+      λ h. ap (λ (y : List ℕ). y ∷ []) (sym at ∙ sym is ∙ test.0 (sym tested ∙ h)),
+      λ h. let same : x ≡ star ∷ [] = cc in tested ∙ test.1 (is ∙ at ∙ same),
+    )
+only_star (x ∷ y ∷ xs) item text r one at is tested = absurd (omega arith)

@@ -14,6 +14,8 @@ mod matching;
 mod nslc;
 mod patterns;
 mod reading;
+#[cfg(test)]
+mod tests;
 
 pub use code::Code;
 pub use nslc::{Nslc, Part};

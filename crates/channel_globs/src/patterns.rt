@@ -108,4 +108,15 @@ impl PatternList {
     {
         some_matches(&self.items, code)
     }
+
+    /// Whether the list is the one pattern `*`, which matches every code. No other list is meant, as
+    /// `**` or `*,*`.
+    pub fn is_any(&self) -> bool
+        ensures { IsTrue result ↔ (self.now ≡ (star ∷ []) ∷ []) }
+    {
+        match self.items.as_slice() {
+            [only] => only.as_slice() == b"*".as_slice(),
+            _ => false,
+        }
+    }
 }

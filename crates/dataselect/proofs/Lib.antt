@@ -1,5 +1,9 @@
+pub mod Asked
 pub mod Bodies
+pub mod Examples
 pub mod Held
 pub mod Inside
+pub mod Members
 pub mod Orders
+pub mod Ranks
 pub mod Steps

@@ -1,5 +1,6 @@
-pub mod Query
-pub mod Order
-pub mod Rows
 pub mod Chosen
 pub mod DataBody
+pub mod Law
+pub mod Order
+pub mod Query
+pub mod Rows

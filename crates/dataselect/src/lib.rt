@@ -7,6 +7,7 @@
 #![tactic(auto)]
 
 mod answers;
+mod law;
 mod order;
 mod plain;
 mod query;
@@ -14,6 +15,7 @@ mod shelf;
 mod sight;
 
 pub use answers::{DataRefusal, answer};
+pub use law::chosen_in_the_subjects_words;
 pub use order::{Rank, places_of, rank_of};
 pub use plain::{PlainShelf, is_chosen};
 pub use query::{DataQuery, Nodata, Selection};

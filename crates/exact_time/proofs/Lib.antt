@@ -1,3 +1,4 @@
 pub mod Calendar
+pub mod Examples
 pub mod Lowest
 pub mod Spellings

@@ -19,6 +19,8 @@ mod moment;
 mod ratio;
 mod reading;
 mod sample;
+#[cfg(test)]
+mod tests;
 
 pub use civil::btime;
 pub use compare::cmp_sample_time;

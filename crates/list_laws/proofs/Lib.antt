@@ -1,2 +1,4 @@
+pub mod Examples
 pub mod Keys
 pub mod Places
+pub mod Refusals

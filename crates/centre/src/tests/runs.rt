@@ -1,0 +1,247 @@
+//! Runs of `select` over objects in memory.
+use super::records::{anmo_record, anmo_record_at, little_endian_record, three_hertz_record};
+use crate::{MemorySink, MemorySource, run};
+use exact_time::{Bytes, Many};
+use std::alloc::Global;
+use std::process::Abort;
+use std::test::Fail;
+
+// Which calls of the source and of the sink fail, from 1; 0 is none.
+#[derive(Clone, Copy)]
+struct Faults {
+    source: u64,
+    sink: u64,
+}
+
+const NO_FAULTS: Faults = Faults { source: 0, sink: 0 };
+
+fn owned_words(alloc: Global, words: &[&str]) -> Result<Vec<String>, Fail> {
+    let mut owned = Vec::new(alloc);
+    for word in words {
+        owned.push(String::from_str(alloc, word)?)?;
+    }
+    Ok(owned)
+}
+
+// The input in pieces of 300 bytes.
+fn pieces(alloc: Global, input: &[u8]) -> Result<Many<Bytes>, Fail> {
+    let mut owned = Many::new(alloc);
+    for piece in input.chunks(300) {
+        let mut bytes = Bytes::new(alloc);
+        bytes.extend(piece)?;
+        owned.push(bytes)?;
+    }
+    Ok(owned)
+}
+
+fn one_call(alloc: Global, call: u64) -> Result<Many<u64>, Fail> {
+    let mut calls = Many::new(alloc);
+    calls.push(call)?;
+    Ok(calls)
+}
+
+// Runs the words over the input, and compares the status, the output and the text on the errors.
+fn check_with(
+    rt: &(impl Abort + AllocGlobal),
+    faults: Faults,
+    words: &[&str],
+    input: &[u8],
+    status: u8,
+    output: &[u8],
+    text: &str,
+) -> Result<(), Fail> {
+    let alloc = rt.alloc();
+    let words = owned_words(alloc, words)?;
+    let mut source = MemorySource::new(pieces(alloc, input)?, one_call(alloc, faults.source)?);
+    let mut sink = MemorySink::new(alloc, one_call(alloc, faults.sink)?);
+    let mut errors = MemorySink::new(alloc, Many::new(alloc));
+    let ended = run(rt, alloc, &words, &mut source, &mut sink, &mut errors);
+    assert_eq!(rt; ended, status);
+    assert_eq!(rt; sink.told().ok_or("lost")?, output);
+    assert_eq!(rt; errors.told().ok_or("lost")?, text.as_bytes());
+    Ok(())
+}
+
+fn check(
+    rt: &(impl Abort + AllocGlobal),
+    words: &[&str],
+    input: &[u8],
+    status: u8,
+    output: &[u8],
+    text: &str,
+) -> Result<(), Fail> {
+    check_with(rt, NO_FAULTS, words, input, status, output, text)
+}
+
+// Checks a window over one record: all of it, or nothing.
+fn check_window(
+    rt: &(impl Abort + AllocGlobal),
+    start: &str,
+    record: &[u8],
+    is_chosen: bool,
+) -> Result<(), Fail> {
+    let words = ["select", "IU", "ANMO", "00", "BHZ", start, "2024-02-02"];
+    if is_chosen {
+        check(rt, &words, record, 0, record, "")
+    } else {
+        check(rt, &words, record, 3, b"", "centre: no data\n")
+    }
+}
+
+const USUAL: [&str; 7] = [
+    "select",
+    "IU",
+    "ANMO",
+    "00",
+    "BHZ",
+    "2024-02-01",
+    "2024-02-02",
+];
+
+#[test]
+fn chooses_records(rt: HostRuntime) -> Result<(), Fail> {
+    let record = anmo_record();
+    check(&rt, &USUAL, &record, 0, &record, "")?;
+    check(&rt, &USUAL, b"", 3, b"", "centre: no data\n")?;
+    check_window(
+        &rt,
+        "2024-02-01T00:00:00.333333",
+        &three_hertz_record(),
+        true,
+    )?;
+    check_window(
+        &rt,
+        "2024-02-01T00:00:00.333334",
+        &three_hertz_record(),
+        false,
+    )?;
+    Ok(())
+}
+
+// In the order of their starts, each once.
+#[test]
+fn orders_records(rt: HostRuntime) -> Result<(), Fail> {
+    let alloc = rt.alloc();
+    let mut input = Bytes::new(alloc);
+    for second in [10, 0, 5, 10, 0] {
+        input.extend(&anmo_record_at(second))?;
+    }
+    let mut output = Bytes::new(alloc);
+    for second in [0, 5, 10] {
+        output.extend(&anmo_record_at(second))?;
+    }
+    check(&rt, &USUAL, input.as_slice(), 0, output.as_slice(), "")
+}
+
+// Checks that the words are refused before anything is read.
+fn check_words(
+    rt: &(impl Abort + AllocGlobal),
+    words: &[&str],
+    status: u8,
+    text: &str,
+) -> Result<(), Fail> {
+    check(rt, words, &anmo_record(), status, b"", text)
+}
+
+#[test]
+fn refuses_words(rt: HostRuntime) -> Result<(), Fail> {
+    let unknown = "centre: unknown command line\n";
+    check_words(&rt, &["select", "IU"], 1, unknown)?;
+    check_words(
+        &rt,
+        &[
+            "select",
+            "IU",
+            "ANMO",
+            "--",
+            "BHZ",
+            "2024-02-01",
+            "2024-02-02",
+        ],
+        1,
+        unknown,
+    )?;
+    let start = "centre: query: Value START\n";
+    check_words(
+        &rt,
+        &[
+            "select",
+            "IU",
+            "ANMO",
+            "00",
+            "BHZ",
+            "2024-13-01",
+            "2024-02-02",
+        ],
+        2,
+        start,
+    )?;
+    let channel = "centre: query: Value CHA\n";
+    check_words(
+        &rt,
+        &["select", "IU", "ANMO", "00", "ABCDEFGHI", "2024-13-01", "x"],
+        2,
+        channel,
+    )?;
+    let order = "centre: query: Order\n";
+    check_words(
+        &rt,
+        &[
+            "select",
+            "IU",
+            "ANMO",
+            "00",
+            "BHZ",
+            "2024-02-02",
+            "2024-02-01",
+        ],
+        2,
+        order,
+    )?;
+    Ok(())
+}
+
+#[test]
+fn refuses_records_and_faults(rt: HostRuntime) -> Result<(), Fail> {
+    let mut cut_off = Bytes::new(rt.alloc());
+    let whole = anmo_record();
+    cut_off.extend(&whole)?;
+    cut_off.extend(whole.get(..300).ok_or("short")?)?;
+    check(
+        &rt,
+        &USUAL,
+        cut_off.as_slice(),
+        2,
+        b"",
+        "centre: record at offset 512: Short\n",
+    )?;
+    check(
+        &rt,
+        &USUAL,
+        &little_endian_record(),
+        2,
+        b"",
+        "centre: record at offset 0: NotPlain\n",
+    )?;
+    let second_read = Faults { source: 2, sink: 0 };
+    check_with(
+        &rt,
+        second_read,
+        &USUAL,
+        &anmo_record(),
+        5,
+        b"",
+        "centre: read fault\n",
+    )?;
+    let first_write = Faults { source: 0, sink: 1 };
+    check_with(
+        &rt,
+        first_write,
+        &USUAL,
+        &anmo_record(),
+        6,
+        b"",
+        "centre: write fault\n",
+    )?;
+    Ok(())
+}

@@ -1,0 +1,167 @@
+//! Worked examples, and each public call with ample memory. The moments are those of Python's datetime.
+use crate::{
+    BTime, Bytes, Many, Moment, OutOfMemory, Ratio, SampleTime, Text, TimeFault, btime,
+    cmp_sample_time,
+};
+use std::cmp::Ordering;
+use std::process::Abort;
+
+fn check_text(rt: &impl Abort, text: &str, wanted: Result<i64, TimeFault>) {
+    let read = match Moment::read(text.as_bytes()) {
+        Ok(moment) => Ok(moment.micros),
+        Err(fault) => Err(fault),
+    };
+    assert_eq!(rt; read, wanted, "{text}");
+}
+
+#[test]
+fn reads_moments(rt: HostRuntime) {
+    check_text(&rt, "2024-02-01", Ok(1_706_745_600_000_000));
+    check_text(&rt, "2024-02-01T12:34:56.789", Ok(1_706_790_896_789_000));
+    check_text(
+        &rt,
+        "2024-02-01T12:34:56.789000Z",
+        Ok(1_706_790_896_789_000),
+    );
+    check_text(&rt, "2024-02-01T00:00:00Z", Ok(1_706_745_600_000_000));
+    check_text(&rt, "1900-01-01", Ok(-2_208_988_800_000_000));
+    check_text(
+        &rt,
+        "2599-12-31T23:59:59.999999",
+        Ok(19_880_899_199_999_999),
+    );
+    check_text(&rt, "2000-02-29", Ok(951_782_400_000_000));
+    check_text(&rt, "2024-02-29", Ok(1_709_164_800_000_000));
+    for range in [
+        "1900-02-29",
+        "2100-02-29",
+        "2024-13-01",
+        "2600-01-01",
+        "1899-12-31",
+        "2024-02-01T24:00:00",
+        "2024-02-01T00:00:60",
+    ] {
+        check_text(&rt, range, Err(TimeFault::Range));
+    }
+    for form in [
+        "",
+        "2024-1-01",
+        "2024-02-01Z",
+        "2024-02-01T00:00",
+        "2024-02-01T00:00:00.",
+        "2024-02-01T00:00:00.1234567",
+        "2024-02-01 00:00:00",
+    ] {
+        check_text(&rt, form, Err(TimeFault::Form));
+    }
+}
+
+fn last_day(year: u16, day: u16) -> Result<i64, TimeFault> {
+    let fields = BTime {
+        year,
+        day,
+        hour: 0,
+        minute: 0,
+        second: 0,
+        fraction: 0,
+    };
+    Ok(btime(fields)?.micros)
+}
+
+// 1900 and 2100 have 365 days, 2000 and 2024 have 366.
+#[test]
+fn knows_leap_years(rt: HostRuntime) {
+    assert_eq!(rt; last_day(1900, 365), Ok(-2_177_539_200_000_000));
+    assert_eq!(rt; last_day(1900, 366), Err(TimeFault::Range));
+    assert_eq!(rt; last_day(2000, 366), Ok(978_220_800_000_000));
+    assert_eq!(rt; last_day(2024, 366), Ok(1_735_603_200_000_000));
+    assert_eq!(rt; last_day(2024, 367), Err(TimeFault::Range));
+    assert_eq!(rt; last_day(2100, 365), Ok(4_133_894_400_000_000));
+    assert_eq!(rt; last_day(2100, 366), Err(TimeFault::Range));
+}
+
+// Second 60 is a plain sum.
+#[test]
+fn takes_second_60(rt: HostRuntime) {
+    let fields = BTime {
+        year: 2024,
+        day: 32,
+        hour: 0,
+        minute: 0,
+        second: 60,
+        fraction: 9999,
+    };
+    assert_eq!(rt;
+        btime(fields),
+        Ok(Moment {
+            micros: 1_706_745_660_999_900
+        })
+    );
+}
+
+fn check_rate(rt: &impl Abort, factor: i16, multiplier: i16, num: u32, den: u32) {
+    let rate = Ratio::of(factor, multiplier);
+    assert_eq!(rt; (rate.num, rate.den), (num, den), "{factor} {multiplier}");
+}
+
+#[test]
+fn reads_rates(rt: HostRuntime) {
+    check_rate(&rt, 20, 1, 20, 1);
+    check_rate(&rt, 1, -3, 1, 3);
+    check_rate(&rt, -10, 1, 1, 10);
+    check_rate(&rt, -10, 4, 2, 5);
+    check_rate(&rt, -10, -10, 1, 100);
+    check_rate(&rt, 0, 5, 0, 1);
+    check_rate(&rt, 5, 0, 0, 1);
+    check_rate(&rt, -32_768, -32_768, 1, 1_073_741_824);
+}
+
+// A second sample at 3 Hz is at one third of a second.
+#[test]
+fn compares_exactly(rt: HostRuntime) {
+    let third = SampleTime {
+        start: Moment { micros: 0 },
+        k: 1,
+        rate: Ratio::of(3, 1),
+    };
+    assert_eq!(rt;
+        cmp_sample_time(third, Moment { micros: 333_333 }),
+        Ordering::Greater
+    );
+    assert_eq!(rt;
+        cmp_sample_time(third, Moment { micros: 333_334 }),
+        Ordering::Less
+    );
+    let tenth = SampleTime {
+        start: Moment { micros: -1 },
+        k: 99,
+        rate: Ratio::of(20, 1),
+    };
+    assert_eq!(rt;
+        cmp_sample_time(tenth, Moment { micros: 4_949_999 }),
+        Ordering::Equal
+    );
+}
+
+#[test]
+fn grows(rt: HostRuntime) -> Result<(), OutOfMemory> {
+    let alloc = rt.alloc();
+    let mut bytes = Bytes::new(alloc);
+    assert!(rt; bytes.is_empty());
+    bytes.push(1)?;
+    bytes.extend(&[2, 3])?;
+    assert_eq!(rt; bytes.as_slice(), [1, 2, 3].as_slice());
+    assert_eq!(rt; bytes.len(), 3);
+    let mut text = Text::new(alloc);
+    text.push("IU ")?;
+    text.push("ANMO")?;
+    assert_eq!(rt; text.as_slice(), b"IU ANMO".as_slice());
+    assert!(rt; text.len() == 7 && !text.is_empty());
+    let mut many = Many::new(alloc);
+    many.push(text)?;
+    many.push(Text::new(alloc))?;
+    assert_eq!(rt; many.pop().is_some_and(|last| last.is_empty()), true);
+    assert!(rt; many.len() == 1 && !many.is_empty() && many.as_slice().len() == 1);
+    assert_eq!(rt; many.into_vec().len(), 1);
+    Ok(())
+}
