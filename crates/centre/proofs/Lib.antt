@@ -2,4 +2,5 @@ pub mod Examples
 pub mod Grows
 pub mod Inputs
 pub mod Pieces
-pub mod QueryWords
+pub mod Rows
+pub mod SelectWords

@@ -1,5 +1,10 @@
--- The exit statuses.
-use Rattle.std.specs.Prelude.{ℕ}
+-- The exit statuses, and the texts on the errors.
+use Rattle.std.specs.Prelude.{ℕ, List, [], ◌++◌, codes, Result, Ok, Err}
+use Rattle.std.specs.Fmt.{decimal}
+use Rattle.mseed_header.specs.declared.header.RecordFault.{RecordFault}
+use Rattle.mseed_header.specs.declared.header.RecordFault.TheVariants.{Short, NotPlain}
+use Rattle.centre.specs.declared.ending.Word.{Word}
+use Rattle.centre.specs.declared.ending.Word.TheVariants.{Network, Station, Location, Channel, Start, End}
 use Rattle.centre.specs.declared.ending.Refusal.{Refusal}
 use Rattle.centre.specs.declared.ending.Refusal.TheVariants.{UnknownCommand, Value, Order, Record, NoData, TooLarge, InputTooLong}
 use Rattle.centre.specs.declared.ending.Stop.{Stop}
@@ -19,3 +24,39 @@ status_of (Refused refusal) = status_of_refusal refusal
 status_of ReadFault = 5
 status_of WriteFault = 6
 status_of OutOfMemory = 70
+
+abbrev pub status_of_run : Result (Unit {0}) Stop → ℕ
+status_of_run (Ok done) = 0
+status_of_run (Err stop) = status_of stop
+
+-- how a word and a fault are named to users
+abbrev pub name_of_word : Word → List ℕ
+name_of_word Network = codes "NET"
+name_of_word Station = codes "STA"
+name_of_word Location = codes "LOC"
+name_of_word Channel = codes "CHA"
+name_of_word Start = codes "START"
+name_of_word End = codes "END"
+
+abbrev pub name_of_fault : RecordFault → List ℕ
+name_of_fault Short = codes "Short"
+name_of_fault NotPlain = codes "NotPlain"
+
+abbrev pub text_of_refusal : Refusal → List ℕ
+text_of_refusal UnknownCommand = codes "centre: unknown command line\n"
+text_of_refusal (Value word) = codes "centre: query: Value " ++ name_of_word word ++ codes "\n"
+text_of_refusal Order = codes "centre: query: Order\n"
+text_of_refusal (Record at fault) = codes "centre: record at offset " ++ decimal at ++ codes ": " ++ name_of_fault fault ++ codes "\n"
+text_of_refusal NoData = codes "centre: no data\n"
+text_of_refusal (TooLarge bytes limit) = codes "centre: " ++ decimal bytes ++ codes " bytes exceed " ++ decimal limit ++ codes "\n"
+text_of_refusal InputTooLong = codes "centre: input too long\n"
+
+abbrev pub text_of : Stop → List ℕ
+text_of (Refused refusal) = text_of_refusal refusal
+text_of ReadFault = codes "centre: read fault\n"
+text_of WriteFault = codes "centre: write fault\n"
+text_of OutOfMemory = codes "centre: out of memory\n"
+
+abbrev pub text_of_run : Result (Unit {0}) Stop → List ℕ
+text_of_run (Ok done) = []
+text_of_run (Err stop) = text_of stop

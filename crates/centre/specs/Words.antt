@@ -1,36 +1,63 @@
--- The query that the words of the command line spell.
-use Rattle.std.specs.Prelude.{◌≡◌, ◌≤ℤ◌, ◌==◌, ℕ, Bool, false, not, List, [], ◌∷◌, codes, slice_index, IsTrue, Option, Some, None}
+-- What the words of the command line ask for.
+use Rattle.std.specs.Prelude.{◌≡◌, ◌≤ℤ◌, ◌<ℤ◌, ◌==◌, ◌&&◌, ℕ, ℤ, Bool, false, not, if◌then◌else◌, List, [], ◌∷◌, codes, slice_index, Option, Some, None, ⊤}
 use Rattle.std.specs.List.{list_all}
+use Rattle.std.specs.Str.{bytes_eq}
 use Rattle.exact_time.specs.MomentText.{IsMoment}
 use Rattle.exact_time.specs.declared.moment.Moment.{Moment}
 use Rattle.channel_globs.specs.PatternText.{IsPatternList}
+use Rattle.channel_globs.specs.declared.nslc.Part.{Part}
 use Rattle.channel_globs.specs.declared.nslc.Part.TheVariants.{Network, Station, Location, Channel}
 use Rattle.dataselect.specs.declared.query.DataQuery.{DataQuery}
 use Rattle.dataselect.specs.declared.query.Selection.{Selection}
 use Rattle.dataselect.specs.declared.query.Nodata.TheVariants.{Quiet}
+use Rattle.channel_globs.specs.declared.patterns.GlobFault.{GlobFault}
+use Rattle.channel_globs.specs.declared.patterns.GlobFault.TheVariants.{TooMany, Character, Length, OutOfMemory as NoMemory}
+use Rattle.centre.specs.declared.ending.Word.{Word}
+use Rattle.centre.specs.declared.ending.Word.TheVariants.{Network as NetworkWord, Station as StationWord, Location as LocationWord, Channel as ChannelWord, Start as StartWord, End as EndWord}
+use Rattle.centre.specs.declared.ending.Refusal.{Refusal}
+use Rattle.centre.specs.declared.ending.Refusal.TheVariants.{UnknownCommand, Value, Order}
+use Rattle.centre.specs.declared.ending.Stop.{Stop}
+use Rattle.centre.specs.declared.ending.Stop.TheVariants.{Refused, OutOfMemory}
 
 abbrev pub Text : Type 0
 Text = List ℕ
+
+-- the six words of `select` behind its name
+pub record SelectWords : Type 0 where
+  pub network : Text
+  pub station : Text
+  pub location : Text
+  pub channel : Text
+  pub start : Text
+  pub end : Text
 
 -- a word that begins with a hyphen is no position
 abbrev pub is_position : Text → Bool
 is_position word = not (slice_index word 0 == 45)
 
+-- the words are `select` and six positions, or they are no command
+abbrev pub select_words_of : List Text → Option SelectWords
+select_words_of (command ∷ network ∷ station ∷ location ∷ channel ∷ start ∷ end ∷ []) =
+    if bytes_eq command (codes "select") && list_all is_position (network ∷ station ∷ location ∷ channel ∷ start ∷ end ∷ [])
+    then Some (record { network = network; station = station; location = location; channel = channel; start = start; end = end })
+    else None
+select_words_of _ = None
+
 -- the pattern lists are those that the four code words spell
-pub record IsNamed (network station location channel : Text) (s : Selection) : Type 0 where
-  pub network_is : IsPatternList Network network s.network
-  pub station_is : IsPatternList Station station s.station
-  pub location_is : IsPatternList Location location s.location
-  pub channel_is : IsPatternList Channel channel s.channel
+pub record IsNamed (w : SelectWords) (s : Selection) : Type 0 where
+  pub network_is : IsPatternList Network w.network s.network
+  pub station_is : IsPatternList Station w.station s.station
+  pub location_is : IsPatternList Location w.location s.location
+  pub channel_is : IsPatternList Channel w.channel s.channel
 
 -- the window is from the moment of one word to that of another, which is not before it
-pub record IsWindow (start end : Text) (s : Selection) : Type 0 where
+pub record IsWindow (w : SelectWords) (s : Selection) : Type 0 where
   pub from : Moment
   pub to : Moment
   pub start_is : s.start ≡ Some from
   pub end_is : s.end ≡ Some to
-  pub from_is : IsMoment start from.micros
-  pub to_is : IsMoment end to.micros
+  pub from_is : IsMoment w.start from.micros
+  pub to_is : IsMoment w.end to.micros
   pub order : from.micros ≤ℤ to.micros
 
 -- the query has this one selection, and asks for any quality and any length
@@ -42,16 +69,77 @@ pub record IsSimple (selection : Selection) (query : DataQuery) : Type 0 where
   pub nodata : query.nodata ≡ Quiet
 
 -- the query has the one selection of these words
-pub record IsSelectQuery (network station location channel start end : Text) (query : DataQuery) : Type 0 where
+pub record IsSelectQuery (w : SelectWords) (query : DataQuery) : Type 0 where
   pub selection : Selection
-  pub named : IsNamed network station location channel selection
-  pub window : IsWindow start end selection
+  pub named : IsNamed w selection
+  pub window : IsWindow w selection
   pub simple : IsSimple selection query
 
--- the words are `select` and six positions, and spell this query
+-- a word spells a pattern list, or a moment
+abbrev pub IsList : Part → Text → Type 0
+IsList part word = (list : List Text) × IsPatternList part word list
+
+abbrev pub IsTime : Text → Type 0
+IsTime word = (micros : ℤ) × IsMoment word micros
+
+-- each code word is a pattern list
+pub record AreLists (w : SelectWords) : Type 0 where
+  pub network_is : IsList Network w.network
+  pub station_is : IsList Station w.station
+  pub location_is : IsList Location w.location
+  pub channel_is : IsList Channel w.channel
+
+-- this word can't be read, and each before it can
+abbrev pub IsFirstBadWord : SelectWords → Word → Type 0
+IsFirstBadWord w NetworkWord = ¬ (IsList Network w.network)
+IsFirstBadWord w StationWord = IsList Network w.network × (¬ (IsList Station w.station))
+IsFirstBadWord w LocationWord = IsList Network w.network × IsList Station w.station × (¬ (IsList Location w.location))
+IsFirstBadWord w ChannelWord =
+    IsList Network w.network × IsList Station w.station × IsList Location w.location × (¬ (IsList Channel w.channel))
+IsFirstBadWord w StartWord = AreLists w × (¬ (IsTime w.start))
+IsFirstBadWord w EndWord = AreLists w × IsTime w.start × (¬ (IsTime w.end))
+
+-- every word can be read, and the start is after the end
+pub record IsBackwards (w : SelectWords) : Type 0 where
+  pub lists : AreLists w
+  pub from : ℤ
+  pub to : ℤ
+  pub from_is : IsMoment w.start from
+  pub to_is : IsMoment w.end to
+  pub order : to <ℤ from
+
+-- why the words of `select` are refused
+abbrev pub RefusesWords : SelectWords → Refusal → Type 0
+RefusesWords w (Value word) = IsFirstBadWord w word
+RefusesWords w Order = IsBackwards w
+RefusesWords w _ = ⊥
+
+-- the words spell this query
+abbrev pub IsQueryAt : Option SelectWords → DataQuery → Type 0
+IsQueryAt None query = ⊥
+IsQueryAt (Some w) query = IsSelectQuery w query
+
 abbrev pub IsQueryOf : List Text → DataQuery → Type 0
-IsQueryOf (command ∷ network ∷ station ∷ location ∷ channel ∷ start ∷ end ∷ []) query =
-    (command ≡ codes "select")
-    × IsTrue (list_all is_position (network ∷ station ∷ location ∷ channel ∷ start ∷ end ∷ []))
-    × IsSelectQuery network station location channel start end query
-IsQueryOf _ query = ⊥
+IsQueryOf words query = IsQueryAt (select_words_of words) query
+
+-- why the words spell no query
+abbrev pub RefusesAt : Option SelectWords → Refusal → Type 0
+RefusesAt None UnknownCommand = ⊤
+RefusesAt None _ = ⊥
+RefusesAt (Some w) refusal = RefusesWords w refusal
+
+abbrev pub RefusesCommand : List Text → Refusal → Type 0
+RefusesCommand words refusal = RefusesAt (select_words_of words) refusal
+
+-- why no query was read; want of memory is free
+abbrev pub StopsWith : (Refusal → Type 0) → Stop → Type 0
+StopsWith Why (Refused refusal) = Why refusal
+StopsWith Why OutOfMemory = ⊤
+StopsWith Why _ = ⊥
+
+-- how a fault of a code word stops a run
+abbrev pub stop_for : GlobFault → Word → Stop
+stop_for NoMemory word = OutOfMemory
+stop_for TooMany word = Refused (Value word)
+stop_for Character word = Refused (Value word)
+stop_for Length word = Refused (Value word)

@@ -2,7 +2,8 @@
 //!
 //! What the program uses: [`run`] does what the words ask for. Its contract says, for every input of
 //! plain records, that with status 0 the sink got the data body of the input's rows for the query of
-//! the words, nothing more and nothing less (`specs/Selected.antt`).
+//! the words, nothing more and nothing less, and for each other status why it came and what it leaves
+//! (`specs/Table.antt`).
 //!
 //! [`Source`] and [`Sink`] are what it needs of the outside. [`MemorySource`] and [`MemorySink`] are
 //! such objects in memory, [`StdSource`] and [`StdSink`] adapters over std's readers and writers.
@@ -22,7 +23,7 @@ mod words;
 pub use adapters::{StdSink, StdSource};
 pub use ending::{Refusal, Stop, Word};
 pub use memory::{MemorySink, MemorySource};
-pub use running::{report, run};
+pub use running::{out_of_memory, run};
 pub use streams::{Sink, Source};
 
 /// How many bytes the input of `select` may have.

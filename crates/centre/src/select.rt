@@ -1,8 +1,9 @@
 //! The data body of a query over an input of records.
-ghost use Rattle.std.specs.Prelude.{◌≡◌, ◌≤◌, ◌<◌, ◌^◌, false, [], length, IfOk, OnOk};
+ghost use Rattle.std.specs.Prelude.{◌≡◌, ◌≤◌, ◌<◌, ◌^◌, false, [], length, IfOk, IfErr, OnOk};
 ghost use Rattle.mseed_header.specs.Records.{AreRecords};
 ghost use Rattle.dataselect.specs.Rows.{held_rows};
-ghost use Rattle.centre.specs.Selected.{IsBodyOf, epoch};
+ghost use Rattle.centre.specs.Answers.{IsBodyOf, RefusesInput, RefusesRecords, epoch, stop_for_data};
+ghost use Rattle.centre.specs.Words.{StopsWith};
 
 use crate::MAX_BYTES;
 use crate::ending::{Refusal, Stop};
@@ -14,7 +15,8 @@ use std::alloc::Global;
 // The input's records, as rows of entry 0 at the moment 0.
 fn rows_of(alloc: Global, input: &[u8]) -> Result<Many<Row>, Stop>
     requires { length input.now < 2 ^ 32 }
-    ensures { IfOk result (λ rows. AreRecords input.now 0 epoch rows) }
+    ensures ok { IfOk result (λ rows. AreRecords input.now 0 epoch rows) }
+    ensures err { IfErr result (StopsWith (RefusesRecords input.now)) }
 {
     match cut_records(alloc, input, 0, Moment { micros: 0 }) {
         Ok(rows) => Ok(rows),
@@ -40,18 +42,28 @@ pub fn body_of(alloc: Global, query: &DataQuery, input: &[u8]) -> Result<Bytes, 
     requires few { length input.now < 2 ^ 32 }
     requires minimum { query.now.minimum ≡ 0 }
     requires longest { query.now.longest ≡ false }
-    ensures { IfOk result (λ body. IsBodyOf query.now input.now body) }
+    ensures ok { IfOk result (λ body. IsBodyOf query.now input.now body) }
+    ensures err { IfErr result (StopsWith (RefusesInput query.now input.now)) }
 {
     let rows = rows_of(alloc, input)?;
     let mut shelf = PlainShelf::new(alloc);
     shelve(&mut shelf, rows)?;
     match answer(alloc, &shelf, &All, query, MAX_BYTES) {
         Ok(body) => Ok(body),
-        Err(DataRefusal::Empty) => Err(Stop::Refused(Refusal::NoData)),
-        Err(DataRefusal::TooLarge(bytes)) => Err(Stop::Refused(Refusal::TooLarge {
+        Err(refusal) => Err(stop_for(refusal)),
+    }
+}
+
+// How a refusal of the answer stops the run.
+fn stop_for(refusal: DataRefusal) -> Stop
+    ensures { result ≡ stop_for_data refusal }
+{
+    match refusal {
+        DataRefusal::Empty => Stop::Refused(Refusal::NoData),
+        DataRefusal::TooLarge(bytes) => Stop::Refused(Refusal::TooLarge {
             bytes,
             limit: MAX_BYTES,
-        })),
-        Err(DataRefusal::OutOfMemory) => Err(Stop::OutOfMemory),
+        }),
+        DataRefusal::OutOfMemory => Stop::OutOfMemory,
     }
 }

@@ -1,9 +1,11 @@
 //! The query that the words of `select` spell.
-ghost use Rattle.std.specs.Prelude.{◌≡◌, ◌↔◌, ◌≤ℤ◌, map, string_bytes, codes, IsTrue, IfOk};
-ghost use Rattle.channel_globs.specs.PatternText.{IsPatternList};
-ghost use Rattle.exact_time.specs.MomentText.{IsMoment};
+ghost use Rattle.std.specs.Prelude.{◌≡◌, ◌↔◌, ◌≤ℤ◌, map, string_bytes, codes, IsTrue, IfOk, IfErr};
 ghost use Rattle.std.specs.List.{list_all};
-ghost use Rattle.centre.specs.Words.{is_position, IsNamed, IsSimple, IsSelectQuery, IsQueryOf};
+ghost use Rattle.std.specs.Option.{option_map};
+ghost use Rattle.exact_time.specs.MomentText.{IsMoment};
+ghost use Rattle.channel_globs.specs.PatternText.{IsPatternList};
+ghost use Rattle.centre.specs.Positions.{words_at};
+ghost use Rattle.centre.specs.Words.{is_position, select_words_of, stop_for, AreLists, IsList, IsTime, IsNamed, IsSimple, IsSelectQuery, IsQueryOf, RefusesWords, RefusesCommand, StopsWith};
 
 use crate::ending::{Refusal, Stop, Word};
 use channel_globs::{GlobFault, Part, PatternList};
@@ -11,15 +13,15 @@ use dataselect::{DataQuery, Nodata, Selection};
 use exact_time::{Many, Moment};
 use std::alloc::Global;
 
-// The words of `select` behind its name.
+/// The words of `select` behind its name.
 #[derive(Clone, Copy)]
-struct Positions<'a> {
-    network: &'a str,
-    station: &'a str,
-    location: &'a str,
-    channel: &'a str,
-    start: &'a str,
-    end: &'a str,
+pub struct Positions<'a> {
+    pub network: &'a str,
+    pub station: &'a str,
+    pub location: &'a str,
+    pub channel: &'a str,
+    pub start: &'a str,
+    pub end: &'a str,
 }
 
 // A word that begins with a hyphen is no position.
@@ -46,41 +48,67 @@ fn are_positions(words: &[String]) -> bool
     words.iter().all(|word| is_position(word))
 }
 
+// The positions, where the words are `select` and six of them.
+fn positions_in(words: &[String]) -> Option<Positions<'_>>
+    ensures { option_map words_at result ≡ select_words_of (map string_bytes words.entry.now) }
+{
+    let [command, network, station, location, channel, start, end] = words else {
+        return None;
+    };
+    if !is_select(command.as_str()) || !are_positions(&words[1..]) {
+        return None;
+    }
+    Some(Positions {
+        network: network.as_str(),
+        station: station.as_str(),
+        location: location.as_str(),
+        channel: channel.as_str(),
+        start: start.as_str(),
+        end: end.as_str(),
+    })
+}
+
+// How a fault of a code word stops the run.
+fn stop_for(fault: GlobFault, word: Word) -> Stop
+    ensures { result ≡ stop_for fault word }
+{
+    match fault {
+        GlobFault::OutOfMemory => Stop::OutOfMemory,
+        _ => Stop::Refused(Refusal::Value(word)),
+    }
+}
+
 // The pattern list of a code word.
 fn patterns(alloc: Global, text: &str, part: Part, word: Word) -> Result<PatternList, Stop>
-    ensures { IfOk result (λ list. IsPatternList part text.now list) }
+    ensures ok { IfOk result (λ list. IsPatternList part text.now list) }
+    ensures err { IfErr result (StopsWith (λ refusal. (refusal ≡ Refusal.Value word) × (¬ (IsList part text.now)))) }
 {
     match PatternList::read(alloc, text.as_bytes(), part) {
         Ok(list) => Ok(list),
-        Err(GlobFault::OutOfMemory) => Err(Stop::OutOfMemory),
-        Err(_) => Err(Stop::Refused(Refusal::Value(word))),
+        Err(fault) => Err(stop_for(fault, word)),
     }
 }
 
 // The moment of a time word.
-fn moment(text: &str, word: Word) -> Result<Moment, Stop>
-    ensures { IfOk result (λ m. IsMoment text.now m.micros) }
+fn moment(text: &str, word: Word) -> Result<Moment, Refusal>
+    ensures ok { IfOk result (λ m. IsMoment text.now m.micros) }
+    ensures err { IfErr result (λ refusal. (refusal ≡ Refusal.Value word) × (¬ (IsTime text.now))) }
 {
     match Moment::read(text.as_bytes()) {
         Ok(moment) => Ok(moment),
-        Err(_) => Err(Stop::Refused(Refusal::Value(word))),
+        Err(_) => Err(Refusal::Value(word)),
     }
 }
 
 // The selection of the four code words, without a window.
-fn names(
-    alloc: Global,
-    network: &str,
-    station: &str,
-    location: &str,
-    channel: &str,
-) -> Result<Selection, Stop>
-    ensures { IfOk result (λ s. IsNamed network.now station.now location.now channel.now s) }
+fn names(alloc: Global, positions: &Positions) -> Result<Selection, Stop>
+    ensures ok { IfOk result (λ s. IsNamed (words_at positions.now) s) }
+    ensures err { IfErr result (StopsWith (RefusesWords (words_at positions.now))) }
 {
-    let network = patterns(alloc, network, Part::Network, Word::Network)?;
-    let station = patterns(alloc, station, Part::Station, Word::Station)?;
-    let location = patterns(alloc, location, Part::Location, Word::Location)?;
-    let channel = patterns(alloc, channel, Part::Channel, Word::Channel)?;
+    let network = patterns(alloc, positions.network, Part::Network, Word::Network)?;
+    let station = patterns(alloc, positions.station, Part::Station, Word::Station)?;
+    let location = patterns(alloc, positions.location, Part::Location, Word::Location)?;
+    let channel = patterns(alloc, positions.channel, Part::Channel, Word::Channel)?;
     Ok(Selection {
         network,
         station,
@@ -91,23 +119,32 @@ fn names(
     })
 }
 
-// The window of the two time words.
-fn window(start: &str, end: &str) -> Result<(Moment, Moment), Stop>
-    ensures from { IfOk result (λ w. IsMoment start.now w.0.micros) }
-    ensures to { IfOk result (λ w. IsMoment end.now w.1.micros) }
+// The window of the two time words. The code words are pattern lists.
+fn window(positions: &Positions) -> Result<(Moment, Moment), Refusal>
+    requires { AreLists (words_at positions.now) }
+    ensures from { IfOk result (λ w. IsMoment positions.now.start.now w.0.micros) }
+    ensures to { IfOk result (λ w. IsMoment positions.now.end.now w.1.micros) }
     ensures order { IfOk result (λ w. w.0.micros ≤ℤ w.1.micros) }
+    ensures err { IfErr result (RefusesWords (words_at positions.now)) }
 {
-    let from = moment(start, Word::Start)?;
-    let to = moment(end, Word::End)?;
-    if from > to {
-        return Err(Stop::Refused(Refusal::Order));
+    let from = match moment(positions.start, Word::Start) {
+        Ok(from) => from,
+        Err(refusal) => return Err(refusal),
+    };
+    let to = match moment(positions.end, Word::End) {
+        Ok(to) => to,
+        Err(late) => return Err(late),
+    };
+    if from.micros > to.micros {
+        return Err(Refusal::Order);
     }
     Ok((from, to))
 }
 
 // The query of one selection, of any quality and any length.
 fn query_of(alloc: Global, selection: Selection) -> Result<DataQuery, Stop>
-    ensures { IfOk result (λ query. IsSimple selection query) }
+    ensures ok { IfOk result (λ query. IsSimple selection query) }
+    ensures err { IfErr result (λ stop. stop ≡ Stop.OutOfMemory) }
 {
     let mut selections = Many::new(alloc);
     selections.push(selection)?;
@@ -122,17 +159,14 @@ fn query_of(alloc: Global, selection: Selection) -> Result<DataQuery, Stop>
 
 // The query of the six positions.
 fn select_query(alloc: Global, positions: &Positions) -> Result<DataQuery, Stop>
-    ensures { IfOk result (λ query. IsSelectQuery positions.now.network.now positions.now.station.now
-        positions.now.location.now positions.now.channel.now positions.now.start.now positions.now.end.now query) }
+    ensures ok { IfOk result (λ query. IsSelectQuery (words_at positions.now) query) }
+    ensures err { IfErr result (StopsWith (RefusesWords (words_at positions.now))) }
 {
-    let named = names(
-        alloc,
-        positions.network,
-        positions.station,
-        positions.location,
-        positions.channel,
-    )?;
-    let (from, to) = window(positions.start, positions.end)?;
+    let named = names(alloc, positions)?;
+    let (from, to) = match window(positions) {
+        Ok(window) => window,
+        Err(refusal) => return Err(Stop::Refused(refusal)),
+    };
     let Selection {
         network,
         station,
@@ -153,25 +187,13 @@ fn select_query(alloc: Global, positions: &Positions) -> Result<DataQuery, Stop>
     )
 }
 
-/// The query that the words spell.
+/// The query that the words spell, or why they spell none.
 pub fn read_query(alloc: Global, words: &[String]) -> Result<DataQuery, Stop>
-    ensures { IfOk result (λ query. IsQueryOf (map string_bytes words.now) query) }
+    ensures ok { IfOk result (λ query. IsQueryOf (map string_bytes words.now) query) }
+    ensures err { IfErr result (StopsWith (RefusesCommand (map string_bytes words.now))) }
 {
-    let [command, network, station, location, channel, start, end] = words else {
+    let Some(positions) = positions_in(words) else {
         return Err(Stop::Refused(Refusal::UnknownCommand));
     };
-    if !is_select(command.as_str()) || !are_positions(&words[1..]) {
-        return Err(Stop::Refused(Refusal::UnknownCommand));
-    }
-    select_query(
-        alloc,
-        &Positions {
-            network: network.as_str(),
-            station: station.as_str(),
-            location: location.as_str(),
-            channel: channel.as_str(),
-            start: start.as_str(),
-            end: end.as_str(),
-        },
-    )
+    select_query(alloc, &positions)
 }

@@ -1,9 +1,16 @@
 -- Worked examples of the definitions.
-use Rattle.std.proofs.Common.{◌≡◌, true, false, refl, codes, [], ◌∷◌, pos, None, Some}
+use Rattle.std.proofs.Common.{◌≡◌, true, false, refl, codes, [], ◌∷◌, pos, None, Err}
 use Rattle.std.specs.declared.cmp.Ordering.TheVariants.{Less, Greater}
 use Rattle.mseed_header.specs.declared.quality.Quality.TheVariants.{D, M}
 use Rattle.dataselect.specs.Order.{name_cmp, rank_cmp}
-use Rattle.dataselect.specs.Query.{holds, is_named}
+use Rattle.mseed_header.proofs.Examples.{anmo_row, anmo_image}
+use Rattle.dataselect.specs.Chosen.{chosen_places}
+use Rattle.dataselect.specs.DataBody.{data_body, answer_of}
+use Rattle.dataselect.specs.Query.{is_named, is_selected, is_asked}
+use Rattle.dataselect.specs.Rows.{held_rows}
+use Rattle.dataselect.specs.declared.answers.DataRefusal.TheVariants.{Empty, TooLarge}
+use Rattle.dataselect.specs.declared.query.DataQuery.{DataQuery}
+use Rattle.dataselect.specs.declared.query.Nodata.TheVariants.{Quiet}
 use Rattle.channel_globs.specs.declared.nslc.Nslc.{Nslc}
 use Rattle.dataselect.specs.declared.order.Rank.{Rank}
 use Rattle.dataselect.specs.declared.query.Selection.{Selection}
@@ -43,3 +50,27 @@ named = refl
 
 not_named : is_named broadband blank_anmo ≡ false
 not_named = refl
+
+abbrev all_of_it : DataQuery
+all_of_it = record { selections = broadband ∷ []; quality = None; minimum = 0; longest = false; nodata = Quiet }
+
+-- the record of IU ANMO 00 BHZ is chosen, and is the body
+chosen : chosen_places (λ _. true) all_of_it (anmo_row ∷ []) ≡ 0 ∷ []
+unfolding is_selected is_asked
+chosen = refl
+
+body : data_body (λ _. true) all_of_it (anmo_row ∷ []) ≡ anmo_image
+unfolding is_selected is_asked
+body = refl
+
+-- nothing is chosen where nothing is seen
+unseen : answer_of (λ _. false) all_of_it 512 (anmo_row ∷ []) ≡ Err Empty
+unseen = refl
+
+too_large : answer_of (λ _. true) all_of_it 511 (anmo_row ∷ []) ≡ Err (TooLarge 512)
+unfolding is_selected is_asked
+too_large = refl
+
+-- a double is left out
+held : held_rows (anmo_row ∷ anmo_row ∷ []) ≡ anmo_row ∷ []
+held = refl

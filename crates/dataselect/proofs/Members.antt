@@ -1,6 +1,6 @@
 -- The places of the chosen rows: which they are, and in which order.
-use Rattle.std.proofs.Common.{◌≡◌, ◌↔◌, ℕ, zero, suc, ◌+◌, ◌<◌, ◌==◌, Bool, true, false, ◌&&◌, ◌||◌, cond, List, [], ◌∷◌, length, get_or, map, Some, None, refl, sym, ap, ◌∙◌, arith, subst, add-one, eq-eqb, Ordering}
-use Rattle.std.specs.Prelude.{Contains, IsTrue}
+use Rattle.std.proofs.Common.{◌≡◌, ℕ, zero, suc, ◌+◌, ◌<◌, ◌==◌, Bool, true, false, cond, List, [], ◌∷◌, length, get_or, map, Some, refl, sym, ap, ◌∙◌, arith, eq-eqb, Ordering}
+use Rattle.std.specs.Prelude.{Contains}
 use Rattle.std.specs.List.{slice_get, list_any, AllByRecursion}
 use Rattle.std.specs.List.Sorted.{IsStrictlySortedBy}
 use Rattle.std.specs.declared.cmp.Ordering.TheVariants.{Less}
@@ -8,7 +8,6 @@ use Rattle.std.proofs.lemmas.Bool.{and_parts, and_from, or_left, or_right}
 use Rattle.std.proofs.lemmas.Bool.Decides.{Decides-eqb}
 use Rattle.std.proofs.lemmas.List.{length-map}
 use Rattle.std.proofs.lemmas.List.Folds.{Any-from_list_any}
-use Rattle.list_laws.specs.InOrder.{in_order}
 use Rattle.list_laws.proofs.Keys.{all_in_order, sorted_in_order, any_in_order}
 use Rattle.mseed_header.specs.declared.row.Row.{Row}
 use Rattle.dataselect.specs.declared.order.Rank.{Rank}
@@ -16,7 +15,7 @@ use Rattle.dataselect.specs.declared.query.DataQuery.{DataQuery}
 use Rattle.dataselect.specs.Order.{rank_cmp, rank_at}
 use Rattle.dataselect.specs.Query.{is_asked}
 use Rattle.dataselect.specs.Chosen.{passes, ranks_from, ranks_chosen, chosen_places}
-use Rattle.dataselect.specs.Law.{IsChosen, AreChosen, IsAskedBy}
+use Rattle.dataselect.specs.Law.{AreChosen}
 use Rattle.dataselect.proofs.Asked.{asked_decides}
 use Rattle.dataselect.proofs.Ranks.{ranks_total, exact_ranks}
 

@@ -1,6 +1,7 @@
 -- The first refused element decides, and what each step keeps holds in the end.
-use Rattle.std.proofs.Common.{◌≡◌, ℕ, ◌+◌, suc, List, [], ◌∷◌, ◌++◌, Result, Ok, Err, length, refl, sym, ap, subst, ◌∙◌, arith}
+use Rattle.std.proofs.Common.{◌≡◌, ℕ, ◌+◌, suc, map, List, [], ◌∷◌, ◌++◌, Result, Ok, Err, length, refl, sym, ap, subst, ◌∙◌, arith}
 use Rattle.std.proofs.lemmas.List.{append-nil, append_assoc}
+use Rattle.list_laws.specs.Faults.{IsFirstFault}
 use Rattle.list_laws.specs.Runs.{and_then, run_from, IsFirstRefused}
 
 behind : {S A E : Type 0} (step : ℕ → S → A → Result S E) (n : ℕ) (s t : S) (x : A) (xs : List A) (e : E) → step n s x ≡ Ok t → IsFirstRefused step (n + 1) t xs e → IsFirstRefused step n s (x ∷ xs) e
@@ -29,3 +30,13 @@ kept step P n before x s t xs (Err d) keeps next is k = cc
 pub run_keeps : {S A E : Type 0} (step : ℕ → S → A → Result S E) (P : List A → S → Type 0) (keeps : (n : ℕ) (before : List A) (x : A) (s t : S) → P before s → step n s x ≡ Ok t → P (before ++ x ∷ []) t) (n : ℕ) (before : List A) (s t : S) (xs : List A) → P before s → run_from step n s xs ≡ Ok t → P (before ++ xs) t
 run_keeps step P keeps n before s t [] p h = let same : s ≡ t = cc in subst (λ u. P (before ++ []) u) same (subst (λ bs. P bs s) (sym (append-nil before)) p)
 run_keeps step P keeps n before s t (x ∷ xs) p h = kept step P n before x s t xs (step n s x) (λ u is. keeps n before x s u p is) (λ u q k. run_keeps step P keeps (n + 1) (before ++ x ∷ []) u t xs q k) refl h
+
+no_values_at : {A B E : Type 0} (f : A → Result B E) (fault : E) (before : List A) (here : A) (after : List A) (values : List B) → f here ≡ Err fault → map f (before ++ here ∷ after) ≡ map Ok values → ⊥
+no_values_at f fault [] here after [] refused e = cc
+no_values_at f fault [] here after (v ∷ vs) refused e = let taken : f here ≡ Ok v = cc in let both : Err fault ≡ Ok v = sym refused ∙ taken in cc
+no_values_at f fault (b ∷ before) here after [] refused e = cc
+no_values_at f fault (b ∷ before) here after (v ∷ vs) refused e = no_values_at f fault before here after vs refused (cc)
+
+-- a list with a refused element has no list of values
+pub no_values : {A B E : Type 0} (f : A → Result B E) (xs : List A) (fault : E) (values : List B) → IsFirstFault f xs fault → map f xs ≡ map Ok values → ⊥
+no_values f xs fault values h e = no_values_at f fault h.before h.here h.after values h.refused (ap (map f) (sym h.split) ∙ e)

@@ -1,11 +1,22 @@
 -- Worked examples of the definitions, over the head of a record of IU ANMO 00 BHZ: 100 samples at 20 Hz.
-use Rattle.std.proofs.Common.{◌≡◌, ℕ, List, [], ◌∷◌, ◌++◌, false, true, refl, codes, arith}
+use Rattle.std.proofs.Common.{◌≡◌, ℕ, List, [], ◌∷◌, ◌++◌, false, true, refl, codes, arith, pos, replicate, zero, suc, Some, subst}
+use Rattle.std.specs.List.{slice_get}
+use Rattle.std.proofs.Math.Nat.{one-dvd}
+use Rattle.std.proofs.lemmas.Int.{ints}
 use Rattle.exact_time.specs.Rate.{seed_rate}
+use Rattle.exact_time.specs.declared.ratio.Ratio.{Ratio}
+use Rattle.exact_time.proofs.Examples.{new_year}
+use Rattle.exact_time.specs.declared.moment.Moment.{Moment}
 use Rattle.mseed_header.specs.CodeField.{IsCodeField, IsLocationField, without_fill, location_of}
 use Rattle.mseed_header.specs.Fields.{number_at, u16_at, i16_at, bytes_at, time_at}
-use Rattle.mseed_header.specs.Header.{IsLoneChain}
+use Rattle.mseed_header.specs.Header.{IsLoneChain, IsPlainHead, IsPlainRecord}
+use Rattle.mseed_header.specs.Records.{AreRecords, IsPlaced}
+use Rattle.mseed_header.specs.Times.{last_index}
+use Rattle.mseed_header.specs.declared.header.Header.{Header}
+use Rattle.mseed_header.specs.declared.quality.Quality.TheVariants.{D}
+use Rattle.mseed_header.specs.declared.row.Row.{Row}
 
-abbrev anmo_head : List ℕ
+abbrev pub anmo_head : List ℕ
 anmo_head =
     codes "000001D ANMO 00BHZIU" ++ (0x07 ∷ 0xe8 ∷ 0x00 ∷ 0x20 ∷ 0x00 ∷ 0x00 ∷ 0x00 ∷ 0x00 ∷ 0x00 ∷ 0x00 ∷ 0x00 ∷ 0x64
     ∷ 0x00 ∷ 0x14 ∷ 0x00 ∷ 0x01 ∷ 0x00 ∷ 0x00 ∷ 0x00 ∷ 0x01 ∷ 0x00 ∷ 0x00 ∷ 0x00 ∷ 0x00 ∷ 0x00 ∷ 0x40 ∷ 0x00 ∷ 0x30
@@ -45,3 +56,78 @@ blank_by_hyphens = refl
 
 length_512 : IsLoneChain false anmo_head 512
 length_512 = record { first = refl; kind = refl; last = refl; exponent = (omega arith, omega arith); size_is = refl }
+
+-- the header
+abbrev pub twenty_hertz : Ratio
+twenty_hertz = record {
+  num = 20;
+  den = 1;
+  num_in = omega arith;
+  den_in = omega arith;
+  above = omega arith;
+  lowest = (one-dvd 20, one-dvd 1, λ d p q. q);
+}
+
+abbrev pub anmo_header : Header
+anmo_header = record {
+  name = record { network = codes "IU"; station = codes "ANMO"; location = codes "00"; channel = codes "BHZ" };
+  quality = D;
+  start = record { micros = pos 1_706_745_600_000_000 };
+  samples = 100;
+  rate = twenty_hertz;
+  length = 512;
+  little = false;
+}
+
+header : IsPlainHead anmo_head anmo_header
+header = record {
+  order = refl;
+  start = record {
+    year = (omega arith, omega arith);
+    time = record { day = (omega arith, omega arith); hour = omega arith; minute = omega arith; second = omega arith; fraction = omega arith };
+    micros_is = rw new_year refl;
+    uncorrected = refl;
+  };
+  quality = refl;
+  name = record {
+    station = station;
+    location = location;
+    channel = record { code_is = refl; letters = refl; some = omega arith };
+    network = record { code_is = refl; letters = refl; some = omega arith };
+  };
+  samples = refl;
+  some = omega arith;
+  rate = record { factor = omega (arith, ints); multiplier = omega (arith, ints); rate_is = refl };
+  chain = length_512;
+}
+
+-- the whole record, and its row
+abbrev pub anmo_image : List ℕ
+anmo_image = anmo_head ++ replicate 456 0
+
+pub anmo_record : IsPlainRecord anmo_image anmo_header
+anmo_record = record { head = header; whole = refl }
+
+abbrev pub anmo_row : Row
+anmo_row = record {
+  header = anmo_header;
+  image = anmo_image;
+  entry = 0;
+  place = 0;
+  moment = record { micros = pos 0 };
+  head = anmo_record;
+  since_1970 = omega (arith, ints);
+  before_2600 = omega (arith, ints);
+}
+
+placed_alone : (moment : Moment) (row : Row) → IsPlaced 0 moment 0 row → (i : ℕ) (r : Row) → slice_get (row ∷ []) i ≡ Some r → IsPlaced 0 moment i r
+placed_alone moment row here zero r is = let same : row ≡ r = (cc) in subst (λ (q : Row). IsPlaced 0 moment 0 q) same here
+placed_alone moment row here (suc i) r is = (cc)
+
+-- it is the one row of its bytes
+row : AreRecords anmo_image 0 (record { micros = pos 0 }) (anmo_row ∷ [])
+row = record { whole = refl; placed = placed_alone (record { micros = pos 0 }) anmo_row (record { entry_is = refl; moment_is = refl; place_is = refl }) }
+
+-- the last sample is the hundredth, number 99 from the start
+last_sample : last_index anmo_header ≡ 99
+last_sample = refl

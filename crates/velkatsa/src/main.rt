@@ -3,7 +3,7 @@
 //! What those streams give and take is not proved, since a real stream tells nothing.
 #![tactic(auto)]
 
-use centre::{StdSink, StdSource, Stop, report, run};
+use centre::{StdSink, StdSource, out_of_memory, run};
 use std::alloc::Global;
 use std::process::ExitCode;
 use std::rt::Env;
@@ -26,7 +26,7 @@ fn main(rt: HostRuntime) -> ExitCode {
     let words = match words_after(&rt, alloc) {
         Ok(words) => words,
         Err(error) if error.kind() == io::ErrorKind::OutOfMemory => {
-            return ExitCode::from(report(alloc, &mut errors, Stop::OutOfMemory));
+            return ExitCode::from(out_of_memory(&mut errors));
         }
         // A word that is no text makes no command, as no words make none.
         Err(_) => Vec::new(alloc),

@@ -1,22 +1,22 @@
 use Rattle.std.proofs.Common.{refl}
 use Rattle.std.proofs.lemmas.Result.{IfOk-weaker}
-use Rattle.centre.specs.Words.{IsNamed}
 use Rattle.centre.proofs.words.select_query.Goals as goal
 
-pub returns : goal.returns
-returns c =
-    let h = c.in_ok-named.ensures in
+pub returns-clause-ok : goal.returns-clause-ok
+returns-clause-ok c =
+    let h = c.in_ok-named.ensures.ok in
+    let w = c.in-Ok.ensures in
     IfOk-weaker c.query_of.result _ _ (λ query simple. record {
       selection = _;
       named = record { network_is = h.network_is; station_is = h.station_is; location_is = h.location_is; channel_is = h.channel_is };
       window = record {
-        from = c.in_ok-from.from;
-        to = c.in_ok-from.to;
+        from = _;
+        to = _;
         start_is = refl;
         end_is = refl;
-        from_is = c.in_ok-from.ensures.from;
-        to_is = c.in_ok-from.ensures.to;
-        order = c.in_ok-from.ensures.order;
+        from_is = w.from;
+        to_is = w.to;
+        order = w.order;
       };
       simple = simple;
-    }) c.query_of.ensures
+    }) c.query_of.ensures.ok

@@ -1,0 +1,72 @@
+-- What the words and the input determine: the body that is written, or why there is none.
+use Rattle.std.specs.Prelude.{◌≡◌, ◌≢◌, ℕ, ◌<◌, Bool, true, pos, List, [], length}
+use Rattle.exact_time.specs.declared.moment.Moment.{Moment}
+use Rattle.mseed_header.specs.declared.row.Row.{Row}
+use Rattle.mseed_header.specs.Records.{AreRecords, IsFirstBad}
+use Rattle.dataselect.specs.declared.query.DataQuery.{DataQuery}
+use Rattle.dataselect.specs.Rows.{held_rows}
+use Rattle.dataselect.specs.Chosen.{chosen_places}
+use Rattle.dataselect.specs.DataBody.{data_body}
+use Rattle.centre.specs.declared.TheConstants.{MAX_INPUT, MAX_BYTES}
+use Rattle.dataselect.specs.declared.answers.DataRefusal.{DataRefusal}
+use Rattle.dataselect.specs.declared.answers.DataRefusal.TheVariants.{Empty, TooLarge as TooMuch, OutOfMemory as NoMemory}
+use Rattle.centre.specs.declared.ending.Stop.{Stop}
+use Rattle.centre.specs.declared.ending.Stop.TheVariants.{Refused, OutOfMemory}
+use Rattle.centre.specs.declared.ending.Refusal.{Refusal}
+use Rattle.centre.specs.declared.ending.Refusal.TheVariants.{Record, NoData, TooLarge, InputTooLong}
+
+abbrev pub epoch : Moment
+epoch = record { micros = pos 0 }
+
+-- every row is seen
+abbrev pub all_seen : Row → Bool
+all_seen row = true
+
+-- the places of the rows that the query chooses, and their bytes: over the rows without those whose
+-- bytes equal an earlier one's
+abbrev pub places_for : DataQuery → List Row → List ℕ
+places_for query rows = chosen_places all_seen query (held_rows rows)
+
+abbrev pub body_for : DataQuery → List Row → List ℕ
+body_for query rows = data_body all_seen query (held_rows rows)
+
+-- The input is plain records end to end, and this is the data body of its rows. The rows have entry 0
+-- and the moment 0, and some is chosen.
+pub record IsBodyOf (query : DataQuery) (input body : List ℕ) : Type 0 where
+  pub rows : List Row
+  pub records : AreRecords input 0 epoch rows
+  pub some : places_for query rows ≢ []
+  pub body_is : body ≡ body_for query rows
+
+-- the input is plain records, and none is chosen
+pub record HasNoData (query : DataQuery) (input : List ℕ) : Type 0 where
+  pub rows : List Row
+  pub records : AreRecords input 0 epoch rows
+  pub none : places_for query rows ≡ []
+
+-- the input is plain records, and the chosen ones have so many bytes, more than the limit
+pub record HasTooMuch (query : DataQuery) (input : List ℕ) (bytes limit : ℕ) : Type 0 where
+  pub rows : List Row
+  pub records : AreRecords input 0 epoch rows
+  pub bytes_is : bytes ≡ length (body_for query rows)
+  pub limit_is : limit ≡ MAX_BYTES
+  pub above : limit < bytes
+
+-- why an input is no records end to end
+abbrev pub RefusesRecords : List ℕ → Refusal → Type 0
+RefusesRecords input (Record at fault) = IsFirstBad input at fault
+RefusesRecords input _ = ⊥
+
+-- how a refusal of an answer stops a run
+abbrev pub stop_for_data : DataRefusal → Stop
+stop_for_data Empty = Refused NoData
+stop_for_data (TooMuch bytes) = Refused (TooLarge bytes MAX_BYTES)
+stop_for_data NoMemory = OutOfMemory
+
+-- why an input has no body for a query
+abbrev pub RefusesInput : DataQuery → List ℕ → Refusal → Type 0
+RefusesInput query input (Record at fault) = IsFirstBad input at fault
+RefusesInput query input NoData = HasNoData query input
+RefusesInput query input (TooLarge bytes limit) = HasTooMuch query input bytes limit
+RefusesInput query input InputTooLong = MAX_INPUT < length input
+RefusesInput query input _ = ⊥
