@@ -1,7 +1,7 @@
 -- Worked examples of the definitions.
-use Rattle.std.proofs.Common.{◌≡◌, true, false, refl, codes, Ok, Err, [], ◌∷◌}
-use Rattle.channel_globs.specs.Matching.{is_match}
-use Rattle.channel_globs.specs.PatternText.{item_of, words_of}
+use Rattle.std.proofs.Common.{◌≡◌, true, false, refl, codes, Ok, Err, [], ◌∷◌, inl, inr, arith}
+use Rattle.channel_globs.specs.Matching.{Matches, is_match}
+use Rattle.channel_globs.specs.PatternText.{item_of, words_of, IsPatternList, RefusesList}
 use Rattle.channel_globs.specs.declared.nslc.Part.TheVariants.{Location, Channel}
 use Rattle.channel_globs.specs.declared.patterns.GlobFault.TheVariants.{Character, Length}
 
@@ -30,3 +30,25 @@ no_hyphen = refl
 
 no_empty_channel : item_of Channel [] ≡ Err Length
 no_empty_channel = refl
+
+-- the first faulty item decides
+list : IsPatternList Channel (codes "LHZ, B*Z ") (codes "LHZ" ∷ codes "B*Z" ∷ [])
+list = record { few = omega arith; each = refl }
+
+refused : RefusesList Channel (codes "LHZ,B-Z,") Character
+refused = (
+  omega arith,
+  record {
+    before = codes "LHZ" ∷ [];
+    here = codes "B-Z";
+    after = [] ∷ [];
+    split = refl;
+    values = codes "LHZ" ∷ [];
+    clean = refl;
+    refused = refl;
+  },
+)
+
+-- the same as a relation: the star stands for one character
+star_for_one : Matches (codes "B*?") (codes "BHZ")
+star_for_one = (inr refl, (1, (inl refl, refl)))

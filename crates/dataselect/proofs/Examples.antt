@@ -6,8 +6,12 @@ use Rattle.dataselect.specs.Order.{name_cmp, rank_cmp}
 use Rattle.mseed_header.proofs.Examples.{anmo_row, anmo_image}
 use Rattle.dataselect.specs.Chosen.{chosen_places}
 use Rattle.dataselect.specs.DataBody.{data_body, answer_of}
+use Rattle.dataselect.specs.Law.{IsAskedBy, AreChosen}
+use Rattle.dataselect.proofs.Asked.{asked_decides}
+use Rattle.dataselect.proofs.Members.{are_chosen}
+use Rattle.mseed_header.proofs.Examples.{anmo_header}
 use Rattle.dataselect.specs.Query.{is_named, is_selected, is_asked}
-use Rattle.dataselect.specs.Rows.{held_rows}
+use Rattle.dataselect.specs.Rows.{held_rows, with_row}
 use Rattle.dataselect.specs.declared.answers.DataRefusal.TheVariants.{Empty, TooLarge}
 use Rattle.dataselect.specs.declared.query.DataQuery.{DataQuery}
 use Rattle.dataselect.specs.declared.query.Nodata.TheVariants.{Quiet}
@@ -74,3 +78,15 @@ too_large = refl
 -- a double is left out
 held : held_rows (anmo_row ∷ anmo_row ∷ []) ≡ anmo_row ∷ []
 held = refl
+
+kept : with_row (anmo_row ∷ []) anmo_row ≡ anmo_row ∷ []
+kept = refl
+
+-- the same in the subject's words
+asked : IsAskedBy all_of_it anmo_header
+unfolding is_selected is_asked
+asked = (asked_decides all_of_it anmo_header).0 refl
+
+the_chosen : AreChosen (λ _. true) all_of_it (anmo_row ∷ []) (0 ∷ [])
+unfolding is_selected is_asked
+the_chosen = are_chosen (λ _. true) all_of_it (anmo_row ∷ [])

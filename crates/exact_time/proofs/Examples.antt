@@ -1,7 +1,7 @@
 -- Worked examples of the definitions.
-use Rattle.std.proofs.Common.{◌≡◌, ◌*◌, refl, pos, negsuc, arith, codes}
+use Rattle.std.proofs.Common.{◌≡◌, ℕ, refl, pos, negsuc, arith, codes, Result, Ok, Err}
 use Rattle.std.specs.declared.cmp.Ordering.TheVariants.{Less, Greater}
-use Rattle.std.specs.Ordering.{int_cmp}
+use Rattle.std.proofs.Math.Nat.{one-dvd}
 use Rattle.std.proofs.lemmas.Int.{ints}
 use Rattle.jiff_core.specs.Calendar.{days_from_civil}
 use Rattle.jiff_core.proofs.CalendarLemmas.{days_from_civil-day_count}
@@ -9,7 +9,10 @@ use Rattle.exact_time.proofs.Calendar.{new_year_count}
 use Rattle.exact_time.specs.BTime.{clock_micros, btime_micros}
 use Rattle.exact_time.specs.declared.reading.CivilTime.{CivilTime}
 use Rattle.exact_time.specs.MomentText.{date_text, clock_text, IsDecimals, IsMoment, without_zulu}
-use Rattle.exact_time.specs.Rate.{seed_rate}
+use Rattle.exact_time.specs.Causes.{Rose, HasCause}
+use Rattle.exact_time.specs.Rate.{seed_rate, IsFraction}
+use Rattle.exact_time.specs.SampleTime.{sample_micros, compare_sample}
+use Rattle.exact_time.specs.declared.ratio.Ratio.{Ratio}
 
 date : date_text 2024 2 1 ≡ codes "2024-02-01"
 date = refl
@@ -34,12 +37,40 @@ slow = refl
 fast : seed_rate (pos 20) (pos 1) ≡ (20, 1)
 fast = refl
 
--- one third of a second, as a fraction of three parts, is after 333,333 microseconds and before 333,334
-after : int_cmp (pos 1_000_000) (pos (333_333 * 3)) ≡ Greater
+-- 3 / 1 is the value of 6 / 2
+three : IsFraction 3 1 (6, 2)
+three = refl
+
+abbrev pub three_hertz : Ratio
+three_hertz = record {
+  num = 3;
+  den = 1;
+  num_in = omega arith;
+  den_in = omega arith;
+  above = omega arith;
+  lowest = (one-dvd 3, one-dvd 1, λ d p q. q);
+}
+
+-- a third of a second, in three parts of a microsecond
+a_third : sample_micros (pos 0) 1 three_hertz ≡ pos 1_000_000
+a_third = refl
+
+-- it is after 333,333 microseconds and before 333,334
+after : compare_sample (pos 0) 1 three_hertz (pos 333_333) ≡ Greater
 after = refl
 
-before : int_cmp (pos 1_000_000) (pos (333_334 * 3)) ≡ Less
+before : compare_sample (pos 0) 1 three_hertz (pos 333_334) ≡ Less
 before = refl
+
+-- a call that failed has counted its fault
+rose : Rose 3 4
+rose = omega arith
+
+failed : HasCause 3 4 (let r : Result ℕ ℕ = Err 1 in r)
+failed = record { later = omega arith; failed = rose }
+
+went_well : HasCause 3 3 (let r : Result ℕ ℕ = Ok 1 in r)
+went_well = record { later = omega arith; failed = tt }
 
 -- 1 January 2024 is 19,723 days after 1 January 1970
 pub new_year : days_from_civil (pos 2024) 1 1 ≡ pos 19_723

@@ -1,7 +1,8 @@
 -- Worked examples of the definitions.
-use Rattle.std.proofs.Common.{◌≡◌, ℕ, ◌+◌, ◌==◌, [], ◌∷◌, Result, Ok, Err, refl, if◌then◌else◌, nat_cmp}
+use Rattle.std.proofs.Common.{◌≡◌, ℕ, ◌+◌, ◌/◌, ◌%◌, ◌==◌, [], ◌∷◌, Result, Ok, Err, refl, if◌then◌else◌, nat_cmp}
 use Rattle.list_laws.specs.InOrder.{in_order}
-use Rattle.list_laws.specs.Runs.{run_from}
+use Rattle.list_laws.specs.Faults.{IsFirstFault}
+use Rattle.list_laws.specs.Runs.{run_from, IsFirstRefused}
 
 -- each key once
 keys : in_order nat_cmp [] (3 ∷ 1 ∷ 3 ∷ 2 ∷ []) ≡ 1 ∷ 2 ∷ 3 ∷ []
@@ -18,3 +19,15 @@ sum = refl
 second : run_from add_some 1 0 (5 ∷ 0 ∷ 0 ∷ []) ≡ Err 2
 unfolding add_some
 second = refl
+
+first_zero : IsFirstRefused add_some 1 0 (5 ∷ 0 ∷ 0 ∷ []) 2
+unfolding add_some
+first_zero = record { before = 5 ∷ []; here = 0; after = 0 ∷ []; split = refl; state = 5; clean = refl; refused = refl }
+
+-- halves, of which an odd number has none
+half : ℕ → Result ℕ ℕ
+half n = if n % 2 == 0 then Ok (n / 2) else Err n
+
+first_odd : IsFirstFault half (2 ∷ 4 ∷ 3 ∷ 5 ∷ []) 3
+unfolding half
+first_odd = record { before = 2 ∷ 4 ∷ []; here = 3; after = 5 ∷ []; split = refl; values = 1 ∷ 2 ∷ []; clean = refl; refused = refl }

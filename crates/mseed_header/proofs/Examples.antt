@@ -1,5 +1,5 @@
 -- Worked examples of the definitions, over the head of a record of IU ANMO 00 BHZ: 100 samples at 20 Hz.
-use Rattle.std.proofs.Common.{◌≡◌, ℕ, List, [], ◌∷◌, ◌++◌, false, true, refl, codes, arith, pos, replicate, zero, suc, Some, subst}
+use Rattle.std.proofs.Common.{◌≡◌, ℕ, List, [], ◌∷◌, ◌++◌, false, true, refl, codes, arith, pos, replicate, zero, suc, Some, subst, inl}
 use Rattle.std.specs.List.{slice_get}
 use Rattle.std.proofs.Math.Nat.{one-dvd}
 use Rattle.std.proofs.lemmas.Int.{ints}
@@ -7,12 +7,15 @@ use Rattle.exact_time.specs.Rate.{seed_rate}
 use Rattle.exact_time.specs.declared.ratio.Ratio.{Ratio}
 use Rattle.exact_time.proofs.Examples.{new_year}
 use Rattle.exact_time.specs.declared.moment.Moment.{Moment}
+use Rattle.mseed_header.proofs.Batches.{some_left}
 use Rattle.mseed_header.specs.CodeField.{IsCodeField, IsLocationField, without_fill, location_of}
 use Rattle.mseed_header.specs.Fields.{number_at, u16_at, i16_at, bytes_at, time_at}
-use Rattle.mseed_header.specs.Header.{IsLoneChain, IsPlainHead, IsPlainRecord}
-use Rattle.mseed_header.specs.Records.{AreRecords, IsPlaced}
-use Rattle.mseed_header.specs.Times.{last_index}
+use Rattle.mseed_header.specs.Header.{IsLoneChain, IsPlainHead, IsPlainRecord, RefusesRecord}
+use Rattle.mseed_header.specs.Records.{AreRecords, IsPlaced, RefusesBatch}
+use Rattle.mseed_header.specs.Times.{last_index, next_index}
+use Rattle.mseed_header.specs.declared.cut.CutFault.TheVariants.{Bad}
 use Rattle.mseed_header.specs.declared.header.Header.{Header}
+use Rattle.mseed_header.specs.declared.header.RecordFault.TheVariants.{Short}
 use Rattle.mseed_header.specs.declared.quality.Quality.TheVariants.{D}
 use Rattle.mseed_header.specs.declared.row.Row.{Row}
 
@@ -131,3 +134,13 @@ row = record { whole = refl; placed = placed_alone (record { micros = pos 0 }) a
 -- the last sample is the hundredth, number 99 from the start
 last_sample : last_index anmo_header ≡ 99
 last_sample = refl
+
+next_sample : next_index anmo_header ≡ 100
+next_sample = refl
+
+-- six bytes are no record, and behind a whole record they are refused at its end
+short : RefusesRecord (codes "000002") Short
+short = inl (omega arith)
+
+second : RefusesBatch (anmo_image ++ codes "000002") (Bad 512 Short)
+second = record { before = anmo_row ∷ []; split = refl; offset = refl; some = some_left (codes "000002") refl; refused = short }
