@@ -1,5 +1,5 @@
 -- What a source had, from what was taken.
-use Rattle.std.proofs.Common.{◌≡◌, ℕ, ◌<◌, List, ◌++◌, length, refl, sym, ◌∙◌, ap, arith, None, Some, append-nil, append_assoc, length-append}
+use Rattle.std.proofs.Common.{ℕ, ◌<◌, List, ◌++◌, length, refl, sym, ◌∙◌, ap, arith, None, Some, append-nil, append_assoc, length-append}
 use Rattle.std.specs.declared.option.Option.{Option}
 use Rattle.std.specs.Io.KnownBytes.{Consumes, IsAtEnd}
 use Rattle.centre.specs.Transfer.{Had, HadMore}

@@ -1,25 +1,22 @@
 -- Each way in which `select` ends is a row of the table.
-use Rattle.std.proofs.Common.{◌≡◌, ◌≢◌, ℕ, ◌<◌, ◌≤◌, Bool, true, false, List, [], ◌∷◌, length, refl, sym, ◌∙◌, ap, arith, None, Some, Ok, Err, Result, cond, nat_lt, subst, inl, inr, append-nil}
+use Rattle.std.proofs.Common.{◌≡◌, ◌≢◌, ℕ, ◌<◌, Bool, true, false, List, [], ◌∷◌, length, refl, sym, ap, arith, None, Some, Ok, Err, Result, cond, nat_lt, subst, inl, inr, append-nil}
 use Rattle.std.specs.declared.option.Option.{Option}
-use Rattle.std.specs.Io.KnownBytes.{IsAtEnd}
 use Rattle.std.proofs.lemmas.Bool.Decides.{nat_tests}
-use Rattle.exact_time.specs.Causes.{Rose}
 use Rattle.mseed_header.specs.declared.row.Row.{Row}
 use Rattle.mseed_header.specs.Records.{AreRecords}
 use Rattle.dataselect.specs.declared.query.DataQuery.{DataQuery}
 use Rattle.dataselect.specs.declared.answers.DataRefusal.{DataRefusal}
 use Rattle.dataselect.specs.declared.answers.DataRefusal.TheVariants.{Empty, TooLarge as TooMuch, OutOfMemory as NoMemory}
 use Rattle.dataselect.specs.Rows.{held_rows}
-use Rattle.dataselect.specs.DataBody.{answer_of, body_or_empty, body_within, images_at, RefusesAs}
+use Rattle.dataselect.specs.DataBody.{answer_of, body_or_empty, images_at, RefusesAs}
 use Rattle.centre.specs.declared.TheConstants.{MAX_INPUT, MAX_BYTES}
-use Rattle.centre.specs.declared.ending.Refusal.{Refusal}
 use Rattle.centre.specs.declared.ending.Refusal.TheVariants.{UnknownCommand, Value, Order, Record, NoData, TooLarge, InputTooLong}
 use Rattle.centre.specs.declared.ending.Stop.{Stop}
 use Rattle.centre.specs.declared.ending.Stop.TheVariants.{Refused, ReadFault, WriteFault, OutOfMemory}
-use Rattle.centre.specs.Answers.{IsBodyOf, RefusesInput, RefusesRecords, places_for, body_for, all_seen, epoch, stop_for_data}
+use Rattle.centre.specs.Answers.{IsBodyOf, RefusesInput, RefusesRecords, places_for, all_seen, epoch, stop_for_data}
 use Rattle.centre.specs.Streams.{Grew}
-use Rattle.centre.specs.Table.{World, Stream, Tells, HasBody, IsSelected, IsWriteStopped, StopRow, ToldFor}
-use Rattle.centre.specs.Transfer.{Had, ReadStops, WritesPart}
+use Rattle.centre.specs.Table.{World, Stream, Tells, StopRow, ToldFor}
+use Rattle.centre.specs.Transfer.{Had, ReadStops}
 use Rattle.centre.specs.Words.{Text, IsQueryOf, RefusesCommand, StopsWith}
 
 -- the words are refused

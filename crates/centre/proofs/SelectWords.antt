@@ -1,5 +1,5 @@
 -- The six words of `select`, and why one of them can't be read.
-use Rattle.std.proofs.Common.{◌≡◌, ◌++◌, ℕ, ℤ, ◌<◌, ◌≤◌, Bool, true, false, ◌&&◌, cond, List, [], ◌∷◌, length, get_or, drop, map, Some, None, Ok, Err, Result, arith, refl, sym, ◌∙◌, ap, subst, codes, ◌⊎◌, inl, inr}
+use Rattle.std.proofs.Common.{◌≡◌, ℕ, Bool, true, false, ◌&&◌, cond, List, [], ◌∷◌, length, get_or, drop, map, Some, None, arith, refl, sym, ◌∙◌, ap, codes, ◌⊎◌, inl, inr}
 use Rattle.std.specs.Prelude.{String, string_bytes}
 use Rattle.std.specs.List.{list_all}
 use Rattle.std.specs.Str.{bytes_eq}
@@ -12,9 +12,8 @@ use Rattle.channel_globs.specs.declared.nslc.Part.{Part}
 use Rattle.channel_globs.specs.declared.patterns.GlobFault.{GlobFault}
 use Rattle.channel_globs.specs.declared.patterns.GlobFault.TheVariants.{TooMany, Character, Length, OutOfMemory}
 use Rattle.centre.specs.declared.ending.Word.{Word}
-use Rattle.centre.specs.declared.ending.Refusal.{Refusal}
 use Rattle.centre.specs.declared.ending.Refusal.TheVariants.{Value}
-use Rattle.centre.specs.Words.{SelectWords, IsList, IsTime, StopsWith, select_words_of, is_position, stop_for}
+use Rattle.centre.specs.Words.{SelectWords, IsList, StopsWith, select_words_of, is_position, stop_for}
 
 -- a fault of a code word is no pattern list
 pub no_list : (part : Part) (text : List ℕ) (fault : GlobFault) (word : Word) → RefusesList part text fault

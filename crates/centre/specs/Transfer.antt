@@ -3,7 +3,6 @@ use Rattle.std.specs.Prelude.{◌≡◌, ℕ, ◌<◌, List, ◌++◌, length, �
 use Rattle.std.specs.declared.option.Option.{Option}
 use Rattle.exact_time.specs.Causes.{Rose}
 use Rattle.centre.specs.Streams.{Grew}
-use Rattle.centre.specs.declared.ending.Refusal.{Refusal}
 use Rattle.centre.specs.declared.ending.Refusal.TheVariants.{InputTooLong}
 use Rattle.centre.specs.declared.ending.Stop.{Stop}
 use Rattle.centre.specs.declared.ending.Stop.TheVariants.{Refused, ReadFault, OutOfMemory}

@@ -76,6 +76,9 @@ went_well = record { later = omega arith; failed = tt }
 pub new_year : days_from_civil (pos 2024) 1 1 ≡ pos 19_723
 new_year = omega (arith, ints, days_from_civil-day_count (pos 2024) 1 1, new_year_count 2024)
 
+pub next_year : days_from_civil (pos 2025) 1 1 ≡ pos 20_089
+next_year = omega (arith, ints, days_from_civil-day_count (pos 2025) 1 1, new_year_count 2025)
+
 -- 2024-02-01T00:00:00, as a header has it
 start : btime_micros (record { year = 2024; day = 32; hour = 0; minute = 0; second = 0; fraction = 0 }) ≡ pos 1_706_745_600_000_000
 start = rw new_year refl

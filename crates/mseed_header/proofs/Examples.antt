@@ -128,7 +128,7 @@ placed_alone moment row here zero r is = let same : row ≡ r = (cc) in subst (�
 placed_alone moment row here (suc i) r is = (cc)
 
 -- it is the one row of its bytes
-row : AreRecords anmo_image 0 (record { micros = pos 0 }) (anmo_row ∷ [])
+pub row : AreRecords anmo_image 0 (record { micros = pos 0 }) (anmo_row ∷ [])
 row = record { whole = refl; placed = placed_alone (record { micros = pos 0 }) anmo_row (record { entry_is = refl; moment_is = refl; place_is = refl }) }
 
 -- the last sample is the hundredth, number 99 from the start
@@ -142,5 +142,5 @@ next_sample = refl
 short : RefusesRecord (codes "000002") Short
 short = inl (omega arith)
 
-second : RefusesBatch (anmo_image ++ codes "000002") (Bad 512 Short)
+pub second : RefusesBatch (anmo_image ++ codes "000002") (Bad 512 Short)
 second = record { before = anmo_row ∷ []; split = refl; offset = refl; some = some_left (codes "000002") refl; refused = short }

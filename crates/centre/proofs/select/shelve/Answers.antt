@@ -1,7 +1,7 @@
-use Rattle.std.proofs.Common.{◌≡◌, ◌≤◌, ◌<◌, ◌∙◌, ap, sym, arith, length, rules, map-id, length-append, ◌∷◌, []}
+use Rattle.std.proofs.Common.{◌≡◌, ◌∙◌, ap, sym, arith, length, rules, map-id, length-append, ◌∷◌, []}
 use Rattle.std.proofs.lemmas.Iterator.Consumers.{YieldsList-end, YieldsList-turn}
 use Rattle.std.proofs.lemmas.Iterator.Adapters.{YieldsList-from_vec}
-use Rattle.dataselect.specs.Rows.{held_rows, with_row}
+use Rattle.dataselect.specs.Rows.{with_row}
 use Rattle.dataselect.proofs.Held.{held_more, length_with}
 use Rattle.centre.proofs.select.shelve.Goals as goal
 

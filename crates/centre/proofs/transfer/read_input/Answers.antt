@@ -1,4 +1,4 @@
-use Rattle.std.proofs.Common.{◌≡◌, ◌<◌, ◌++◌, ◌+◌, take, length, arith, length-append}
+use Rattle.std.proofs.Common.{◌<◌, ◌++◌, take, length, arith, length-append}
 use Rattle.centre.proofs.Inputs.{had_more, Consumes-then}
 use Rattle.centre.proofs.transfer.read_input.Goals as goal
 

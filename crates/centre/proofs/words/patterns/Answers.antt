@@ -1,4 +1,4 @@
-use Rattle.std.proofs.Common.{subst, sym, ◌∙◌, List, ℕ, ◌≡◌}
+use Rattle.std.proofs.Common.{subst, sym, ◌≡◌}
 use Rattle.centre.specs.declared.ending.Refusal.TheVariants.{Value}
 use Rattle.centre.specs.declared.ending.Stop.{Stop}
 use Rattle.centre.specs.Words.{IsList, StopsWith}

@@ -1,4 +1,4 @@
-use Rattle.std.proofs.Common.{arith, ◌≡◌, true, false, inl, inr, sym, ◌∙◌, ap, refl, Some}
+use Rattle.std.proofs.Common.{arith, ◌≡◌, true, false, inl, inr, sym, ◌∙◌, refl}
 use Rattle.std.proofs.lemmas.List.{take_rest}
 use Rattle.centre.proofs.SelectWords.{some_words, no_words, texts_same}
 use Rattle.centre.proofs.words.positions_in.Goals as goal

@@ -1,4 +1,4 @@
-use Rattle.std.proofs.Common.{rules, ◌≡◌, ◌+◌, ◌≤◌, length, arith, ◌∙◌, sym, ap, take, drop, ◌++◌, length-drop, List, ℕ, ◌-◌, get_or}
+use Rattle.std.proofs.Common.{◌≡◌, ◌+◌, ◌≤◌, length, arith, ◌∙◌, sym, ap, take, drop, ◌++◌, length-drop, List, ℕ, ◌-◌, get_or}
 use Rattle.std.proofs.lemmas.Grind.{common_steps}
 use Rattle.centre.specs.Memory.{bytes_left}
 use Rattle.centre.proofs.Pieces.{skipped, gave, given_part}
