@@ -1,24 +1,31 @@
 -- Worked examples of the definitions.
-use Rattle.std.proofs.Common.{◌≡◌, true, false, refl, codes, [], ◌∷◌, ◌++◌, List, None, Some, pos, arith, Ok, Err, Result, inl, ℕ}
+use Rattle.std.proofs.Common.{◌≡◌, true, false, refl, sym, subst, codes, [], ◌∷◌, ◌++◌, List, None, Some, pos, arith, Ok, Err, Result, inl, inr, ℕ}
 use Rattle.std.proofs.lemmas.Int.{ints}
 use Rattle.exact_time.proofs.Examples.{new_year, next_year}
+use Rattle.exact_time.specs.MomentText.{IsMoment}
+use Rattle.exact_time.specs.declared.moment.Moment.{Moment}
+use Rattle.channel_globs.proofs.OneList.{no_list}
+use Rattle.channel_globs.specs.declared.nslc.Part.TheVariants.{Station}
+use Rattle.channel_globs.specs.declared.patterns.GlobFault.TheVariants.{Character}
 use Rattle.mseed_header.proofs.Batches.{some_left}
 use Rattle.mseed_header.proofs.Examples.{anmo_image, anmo_row, row, second}
 use Rattle.mseed_header.specs.declared.header.RecordFault.TheVariants.{Short}
-use Rattle.exact_time.specs.MomentText.{IsMoment}
-use Rattle.exact_time.specs.declared.moment.Moment.{Moment}
 use Rattle.dataselect.specs.declared.query.Nodata.TheVariants.{Quiet}
 use Rattle.dataselect.specs.declared.query.DataQuery.{DataQuery}
 use Rattle.dataselect.specs.declared.query.Selection.{Selection}
 use Rattle.dataselect.specs.Query.{is_selected, is_asked}
-use Rattle.centre.specs.Answers.{IsBodyOf, RefusesInput}
+use Rattle.centre.specs.Answers.{IsBodyOf, RefusesInput, IsAnswer}
+use Rattle.centre.specs.Commands.{SelectWords, select, help, version, is_position, command_of}
 use Rattle.centre.specs.Memory.{bytes_left}
+use Rattle.centre.specs.Settled.{EndsAs, IsSettled, ComesWhere, IsWritten}
 use Rattle.centre.specs.Status.{status_of, text_of}
 use Rattle.centre.specs.Streams.{Grew, Puts}
-use Rattle.centre.specs.Table.{World, IsSelected, IsRun}
+use Rattle.centre.specs.Table.{World, Stream, Tells, IsSelected, IsRun}
 use Rattle.centre.specs.Transfer.{Had, WritesPart}
-use Rattle.centre.specs.Words.{is_position, IsQueryOf, RefusesCommand}
-use Rattle.centre.specs.declared.ending.Refusal.TheVariants.{UnknownCommand, Order, Record}
+use Rattle.centre.specs.Words.{IsSelectQuery, RefusesWords}
+use Rattle.centre.specs.declared.ending.Word.TheVariants.{Network as NetworkWord, Station as StationWord, Location as LocationWord, Channel as ChannelWord, Start as StartWord, End as EndWord}
+use Rattle.centre.specs.declared.ending.Refusal.{Refusal}
+use Rattle.centre.specs.declared.ending.Refusal.TheVariants.{UnknownCommand, Value, Order, Record}
 use Rattle.centre.specs.declared.ending.Stop.TheVariants.{Refused, ReadFault}
 
 position : is_position (codes "BH?") ≡ true
@@ -40,9 +47,32 @@ left = refl
 grew : Grew (Some (codes "IU")) (Some (codes "IU ANMO")) (codes " ANMO")
 grew = refl
 
--- two words are no command
-two_words : RefusesCommand (codes "select" ∷ codes "IU" ∷ []) UnknownCommand
-two_words = tt
+-- two words are no command, and one may be
+two_words : command_of (codes "select" ∷ codes "IU" ∷ []) ≡ None
+two_words = refl
+
+help_asked : command_of (codes "--help" ∷ []) ≡ Some help
+help_asked = refl
+
+version_asked : IsAnswer (Some version) [] (Ok (codes "centre 0.1.0\n"))
+version_asked = refl
+
+-- seven words are, where none of them begins with a hyphen
+abbrev six_words : SelectWords
+six_words = record {
+  network = codes "IU";
+  station = codes "AN*";
+  location = codes ",00";
+  channel = codes "BH?";
+  start = codes "2024-01-01";
+  end = codes "2024-01-01";
+}
+
+seven_words : command_of (codes "select" ∷ codes "IU" ∷ codes "AN*" ∷ codes ",00" ∷ codes "BH?" ∷ codes "2024-01-01" ∷ codes "2024-01-01" ∷ []) ≡ Some (select six_words)
+seven_words = refl
+
+hyphens : command_of (codes "select" ∷ codes "IU" ∷ codes "AN*" ∷ codes "--" ∷ codes "BH?" ∷ codes "2024-01-01" ∷ codes "2024-01-01" ∷ []) ≡ None
+hyphens = refl
 
 -- the query of some words
 new_year_day : IsMoment (codes "2024-01-01") (pos 1_704_067_200_000_000)
@@ -74,7 +104,7 @@ broadband = record {
   end = Some day;
 }
 
-asked : IsQueryOf (codes "select" ∷ codes "IU" ∷ codes "AN*" ∷ codes ",00" ∷ codes "BH?" ∷ codes "2024-01-01" ∷ codes "2024-01-01" ∷ [])
+asked : IsSelectQuery six_words
     (record { selections = broadband ∷ []; quality = None; minimum = 0; longest = false; nodata = Quiet })
 asked = record {
   selection = broadband;
@@ -124,10 +154,10 @@ next_year_day = (
 abbrev all_year : DataQuery
 all_year = record { selections = record broadband { end = Some new_year_2025 } ∷ []; quality = None; minimum = 0; longest = false; nodata = Quiet }
 
-abbrev words : List (List ℕ)
-words = codes "select" ∷ codes "IU" ∷ codes "AN*" ∷ codes ",00" ∷ codes "BH?" ∷ codes "2024-01-01" ∷ codes "2025-01-01" ∷ []
+abbrev words : SelectWords
+words = record six_words { end = codes "2025-01-01" }
 
-asked_all : IsQueryOf words all_year
+asked_all : IsSelectQuery words all_year
 asked_all = record {
   selection = record broadband { end = Some new_year_2025 };
   named = record {
@@ -140,12 +170,42 @@ asked_all = record {
   simple = record { only = refl; quality = refl; minimum = refl; longest = refl; nodata = refl };
 }
 
+-- the first word that can't be read, and times in the wrong order
+bad_station : RefusesWords (record six_words { station = codes "A-N" }) (Value StationWord)
+bad_station = record {
+  before = NetworkWord ∷ [];
+  after = LocationWord ∷ ChannelWord ∷ StartWord ∷ EndWord ∷ [];
+  split = refl;
+  all = ((codes "IU" ∷ [], record { few = omega arith; each = refl }), tt);
+  lacks = λ h.
+      no_list Station (codes "A-N") h.0 Character h.1
+      (omega arith, record { before = []; here = codes "A-N"; after = []; split = refl; values = []; clean = refl; refused = refl });
+}
+
+backwards : RefusesWords (record six_words { start = codes "2025-01-01" }) Order
+backwards = record {
+  lists = record {
+    network_is = (codes "IU" ∷ [], record { few = omega arith; each = refl });
+    station_is = (codes "AN*" ∷ [], record { few = omega arith; each = refl });
+    location_is = (codes "  " ∷ codes "00" ∷ [], record { few = omega arith; each = refl });
+    channel_is = (codes "BH?" ∷ [], record { few = omega arith; each = refl });
+  };
+  from = pos 1_735_689_600_000_000;
+  to = pos 1_704_067_200_000_000;
+  from_is = next_year_day;
+  to_is = new_year_day;
+  order = omega (arith, ints);
+}
+
 body : IsBodyOf all_year anmo_image anmo_image
 unfolding is_selected is_asked
-body = record { rows = anmo_row ∷ []; records = row; some = some_left (0 ∷ []) refl; body_is = refl }
+body = record { within = omega arith; rows = anmo_row ∷ []; records = row; some = some_left (0 ∷ []) refl; body_is = refl; fits = omega arith }
 
 refused : RefusesInput all_year (anmo_image ++ codes "000002") (Record 512 Short)
-refused = second
+refused = record { within = omega arith; first = second }
+
+answer : IsAnswer (Some (select words)) anmo_image (Ok anmo_image)
+answer = (all_year, asked_all, body)
 
 -- a run that wrote it, and one that told why it didn't begin
 abbrev before : World
@@ -155,21 +215,30 @@ abbrev after : World
 after = record { source = record { bytes = Some []; faults = 0 }; sink = record { bytes = Some anmo_image; faults = 0 } }
 
 selected : IsSelected words before after
-selected = record {
-  body = anmo_image;
-  has = record { input = anmo_image; query = all_year; had = refl; asked = asked_all; answer = body };
-  end = refl;
-  output = refl;
-}
+selected = record { input = anmo_image; body = anmo_image; had = refl; answer = answer; end = refl; output = refl }
 
-run : IsRun (codes "select" ∷ codes "IU" ∷ []) before before
-    (record { bytes = Some []; faults = 0 }) (record { bytes = Some (codes "centre: unknown command line\n"); faults = 0 }) 1
-run = record {
-  ending = Err (Refused UnknownCommand);
-  row = inl (record { why = tt; same = refl });
-  status_is = refl;
-  text = record {
-    part = record { part = codes "centre: unknown command line\n"; rest = []; split = refl; output = refl };
-    whole = inl refl;
-  };
-}
+written : IsWritten (Some (select words)) before after
+written = record { input = anmo_image; body = anmo_image; had = refl; answer = answer; output = refl }
+
+abbrev silent : Stream
+silent = record { bytes = Some []; faults = 0 }
+
+abbrev told : Stream
+told = record { bytes = Some (codes "centre: unknown command line\n"); faults = 0 }
+
+told_unknown : Tells silent told (codes "centre: unknown command line\n")
+told_unknown = record { part = record { part = codes "centre: unknown command line\n"; rest = []; split = refl; output = refl }; whole = inl refl }
+
+run : IsRun None before before silent told 1
+run = record { ending = Err (Refused UnknownCommand); row = refl; status_is = refl; text = told_unknown }
+
+-- what words that are no command determine, whatever the input
+ends : EndsAs (Err UnknownCommand) silent told 1
+ends = record { status_is = refl; text = told_unknown }
+
+settled : IsSettled None anmo_image silent told 1
+settled = λ answer is. inr (subst (λ (a : Result (List ℕ) Refusal). EndsAs a silent told 1) (sym is) ends)
+
+-- a status that comes exactly where its cause holds
+unknown_comes : ComesWhere 1 1 (IsAnswer None anmo_image (Err UnknownCommand))
+unknown_comes = record { only = λ e. refl; always = λ cause. inr refl }

@@ -1,6 +1,9 @@
 pub mod Examples
 pub mod Grows
 pub mod Inputs
+pub mod OneAnswer
+pub mod OneQuery
 pub mod Pieces
 pub mod Rows
 pub mod SelectWords
+pub mod Settling

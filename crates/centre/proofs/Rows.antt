@@ -1,5 +1,5 @@
--- Each way in which `select` ends is a row of the table.
-use Rattle.std.proofs.Common.{◌≡◌, ◌≢◌, ℕ, ◌<◌, Bool, true, false, List, [], ◌∷◌, length, refl, sym, ap, arith, None, Some, Ok, Err, Result, cond, nat_lt, subst, inl, inr, append-nil}
+-- Each way in which a run ends is a row of the table.
+use Rattle.std.proofs.Common.{◌≡◌, ◌≢◌, ◌⊎◌, ℕ, ◌<◌, ◌≤◌, Bool, true, false, List, [], ◌∷◌, length, refl, sym, ap, arith, None, Some, Ok, Err, Result, cond, nat_lt, subst, inl, inr, append-nil}
 use Rattle.std.specs.declared.option.Option.{Option}
 use Rattle.std.proofs.lemmas.Bool.Decides.{nat_tests}
 use Rattle.mseed_header.specs.declared.row.Row.{Row}
@@ -15,59 +15,97 @@ use Rattle.centre.specs.declared.ending.Stop.{Stop}
 use Rattle.centre.specs.declared.ending.Stop.TheVariants.{Refused, ReadFault, WriteFault, OutOfMemory}
 use Rattle.centre.specs.Answers.{IsBodyOf, RefusesInput, RefusesRecords, places_for, all_seen, epoch, stop_for_data}
 use Rattle.centre.specs.Streams.{Grew}
-use Rattle.centre.specs.Table.{World, Stream, Tells, StopRow, ToldFor}
+use Rattle.centre.specs.Commands.{SelectWords, Command, select, help, version}
+use Rattle.centre.specs.Table.{World, Stream, Tells, SelectRow, ShowRow, UnknownRow, Row as TableRow, ToldFor}
+use Rattle.centre.specs.declared.help.TheConstants.{HELP, VERSION}
+use Rattle.centre.specs.declared.ending.Refusal.{Refusal}
 use Rattle.centre.specs.Transfer.{Had, ReadStops}
-use Rattle.centre.specs.Words.{Text, IsQueryOf, RefusesCommand, StopsWith}
+use Rattle.centre.specs.Words.{IsSelectQuery, RefusesWords, StopsWith}
 
 -- the words are refused
-pub words_row : (words : List Text) (world : World) (stop : Stop) → StopsWith (RefusesCommand words) stop → StopRow words world world stop
-words_row words world (Refused refusal) why = inl (record { why = why; same = refl })
-words_row words world OutOfMemory why = refl
-words_row words world ReadFault why = absurd why
-words_row words world WriteFault why = absurd why
+pub words_row : (w : SelectWords) (world : World) (stop : Stop) → StopsWith (RefusesWords w) stop → SelectRow w world world (Err stop)
+words_row w world (Refused refusal) why = inl (record { why = why; same = refl })
+words_row w world OutOfMemory why = refl
+words_row w world ReadFault why = absurd why
+words_row w world WriteFault why = absurd why
 
 -- reading stopped
-pub read_row : (words : List Text) (query : DataQuery) (before after : World) (stop : Stop) → IsQueryOf words query → after.sink ≡ before.sink
-    → ReadStops MAX_INPUT before.source.bytes before.source.faults after.source.faults stop → StopRow words before after stop
-read_row words query before after ReadFault asked kept why = record { query = query; asked = asked; rose = why; kept = kept }
-read_row words query before after (Refused InputTooLong) asked kept why =
+pub read_row : (w : SelectWords) (query : DataQuery) (before after : World) (stop : Stop) → IsSelectQuery w query → after.sink ≡ before.sink
+    → ReadStops MAX_INPUT before.source.bytes before.source.faults after.source.faults stop → SelectRow w before after (Err stop)
+read_row w query before after ReadFault asked kept why = record { query = query; asked = asked; rose = why; kept = kept }
+read_row w query before after (Refused InputTooLong) asked kept why =
     inr (record { input = why.input; query = query; had = why.had; asked = asked; why = why.long; kept = kept })
-read_row words query before after OutOfMemory asked kept why = kept
-read_row words query before after WriteFault asked kept why = absurd why
-read_row words query before after (Refused UnknownCommand) asked kept why = absurd why
-read_row words query before after (Refused (Value word)) asked kept why = absurd why
-read_row words query before after (Refused Order) asked kept why = absurd why
-read_row words query before after (Refused (Record at fault)) asked kept why = absurd why
-read_row words query before after (Refused NoData) asked kept why = absurd why
-read_row words query before after (Refused (TooLarge bytes limit)) asked kept why = absurd why
+read_row w query before after OutOfMemory asked kept why = kept
+read_row w query before after WriteFault asked kept why = absurd why
+read_row w query before after (Refused UnknownCommand) asked kept why = absurd why
+read_row w query before after (Refused (Value word)) asked kept why = absurd why
+read_row w query before after (Refused Order) asked kept why = absurd why
+read_row w query before after (Refused (Record at fault)) asked kept why = absurd why
+read_row w query before after (Refused NoData) asked kept why = absurd why
+read_row w query before after (Refused (TooLarge bytes limit)) asked kept why = absurd why
 
 -- the input is refused
-pub input_row : (words : List Text) (query : DataQuery) (input : List ℕ) (before after : World) (stop : Stop) → IsQueryOf words query → Had before.source.bytes input → after.sink ≡ before.sink
-    → StopsWith (RefusesInput query input) stop → StopRow words before after stop
-input_row words query input before after (Refused refusal) asked had kept why =
+pub input_row : (w : SelectWords) (query : DataQuery) (input : List ℕ) (before after : World) (stop : Stop) → IsSelectQuery w query → Had before.source.bytes input → after.sink ≡ before.sink
+    → StopsWith (RefusesInput query input) stop → SelectRow w before after (Err stop)
+input_row w query input before after (Refused refusal) asked had kept why =
     inr (record { input = input; query = query; had = had; asked = asked; why = why; kept = kept })
-input_row words query input before after OutOfMemory asked had kept why = kept
-input_row words query input before after ReadFault asked had kept why = absurd why
-input_row words query input before after WriteFault asked had kept why = absurd why
+input_row w query input before after OutOfMemory asked had kept why = kept
+input_row w query input before after ReadFault asked had kept why = absurd why
+input_row w query input before after WriteFault asked had kept why = absurd why
 
--- a stop whose text can't be made becomes want of memory, and its row still holds
-pub told_row : (words : List Text) (before after : World) (stop told : Stop) → StopRow words before after stop → ToldFor stop told → StopRow words before after told
-told_row words before after WriteFault told row e = let P : Stop → Type 0 = λ s. StopRow words before after s in subst P (sym e) row
-told_row words before after (Refused r) told row e =
-    let P : Stop → Type 0 = λ s. StopRow words before after s in
-    elim e [ inl same ↦ subst P (sym same) row | inr starved ↦ subst P (sym starved) (elim row [ inl w ↦ ap (λ (x : World). x.sink) w.same | inr i ↦ i.kept ]) ]
-told_row words before after ReadFault told row e =
-    let P : Stop → Type 0 = λ s. StopRow words before after s in elim e [ inl same ↦ subst P (sym same) row | inr starved ↦ subst P (sym starved) row.kept ]
-told_row words before after OutOfMemory told row e =
-    let P : Stop → Type 0 = λ s. StopRow words before after s in elim e [ inl same ↦ subst P (sym same) row | inr starved ↦ subst P (sym starved) row ]
+-- what is told has the row of the stop: want of memory, told in its stead, leaves the sink as it was
+starved : (w : SelectWords) (before after : World) (refusal : Refusal) → SelectRow w before after (Err (Refused refusal)) → SelectRow w before after (Err OutOfMemory)
+starved w before after refusal row = elim row [ inl by_words ↦ ap (λ (x : World). x.sink) by_words.same | inr by_input ↦ by_input.kept ]
+
+made_row : (w : SelectWords) (before after : World) (refusal : Refusal) (told : Stop) → SelectRow w before after (Err (Refused refusal)) → (told ≡ Refused refusal) ⊎ (told ≡ OutOfMemory)
+    → SelectRow w before after (Err told)
+made_row w before after refusal told row e =
+    let P : Stop → Type 0 = λ s. SelectRow w before after (Err s) in
+    elim e [ inl same ↦ subst P (sym same) row | inr none ↦ subst P (sym none) (starved w before after refusal row) ]
+
+told_select : (w : SelectWords) (before after : World) (stop told : Stop) → SelectRow w before after (Err stop) → ToldFor stop told → SelectRow w before after (Err told)
+told_select w before after (Refused (Record at fault)) told row e = made_row w before after (Record at fault) told row e
+told_select w before after (Refused (TooLarge bytes limit)) told row e = made_row w before after (TooLarge bytes limit) told row e
+told_select w before after (Refused UnknownCommand) told row e = let P : Stop → Type 0 = λ s. SelectRow w before after (Err s) in subst P (sym e) row
+told_select w before after (Refused (Value word)) told row e = let P : Stop → Type 0 = λ s. SelectRow w before after (Err s) in subst P (sym e) row
+told_select w before after (Refused Order) told row e = let P : Stop → Type 0 = λ s. SelectRow w before after (Err s) in subst P (sym e) row
+told_select w before after (Refused NoData) told row e = let P : Stop → Type 0 = λ s. SelectRow w before after (Err s) in subst P (sym e) row
+told_select w before after (Refused InputTooLong) told row e = let P : Stop → Type 0 = λ s. SelectRow w before after (Err s) in subst P (sym e) row
+told_select w before after ReadFault told row e = let P : Stop → Type 0 = λ s. SelectRow w before after (Err s) in subst P (sym e) row
+told_select w before after WriteFault told row e = let P : Stop → Type 0 = λ s. SelectRow w before after (Err s) in subst P (sym e) row
+told_select w before after OutOfMemory told row e = let P : Stop → Type 0 = λ s. SelectRow w before after (Err s) in subst P (sym e) row
+
+told_show : (text : List ℕ) (before after : World) (stop told : Stop) → ShowRow text before after (Err stop) → ToldFor stop told → ShowRow text before after (Err told)
+told_show text before after WriteFault told row e = let P : Stop → Type 0 = λ s. ShowRow text before after (Err s) in subst P (sym e) row
+told_show text before after (Refused refusal) told row e = absurd row
+told_show text before after ReadFault told row e = absurd row
+told_show text before after OutOfMemory told row e = absurd row
+
+told_unknown : (before after : World) (stop told : Stop) → UnknownRow before after (Err stop) → ToldFor stop told → UnknownRow before after (Err told)
+told_unknown before after (Refused UnknownCommand) told row e = let P : Stop → Type 0 = λ s. UnknownRow before after (Err s) in subst P (sym e) row
+told_unknown before after (Refused (Value word)) told row e = absurd row
+told_unknown before after (Refused Order) told row e = absurd row
+told_unknown before after (Refused (Record at fault)) told row e = absurd row
+told_unknown before after (Refused NoData) told row e = absurd row
+told_unknown before after (Refused (TooLarge bytes limit)) told row e = absurd row
+told_unknown before after (Refused InputTooLong) told row e = absurd row
+told_unknown before after ReadFault told row e = absurd row
+told_unknown before after WriteFault told row e = absurd row
+told_unknown before after OutOfMemory told row e = absurd row
+
+pub told_row : (command : Option Command) (before after : World) (stop told : Stop) → TableRow command before after (Err stop) → ToldFor stop told → TableRow command before after (Err told)
+told_row None before after stop told row e = told_unknown before after stop told row e
+told_row (Some help) before after stop told row e = told_show HELP.now before after stop told row e
+told_row (Some version) before after stop told row e = told_show VERSION.now before after stop told row e
+told_row (Some (select w)) before after stop told row e = told_select w before after stop told row e
 
 -- what an answer says of the body
 abbrev within : List ℕ → Bool → Result (List ℕ) DataRefusal
 within xs b = cond b (Err (TooMuch (length xs))) (Ok xs)
 
-within_ok : (xs body : List ℕ) (b : Bool) → within xs b ≡ Ok body → xs ≡ body
-within_ok xs body true e = (cc)
-within_ok xs body false e = (cc)
+within_ok : (xs body : List ℕ) (b : Bool) → within xs b ≡ Ok body → (b ≡ false) × (xs ≡ body)
+within_ok xs body true e = absurd (cc)
+within_ok xs body false e = (refl, (cc))
 
 within_err : (n : ℕ) (xs : List ℕ) (b : Bool) → within xs b ≡ Err (TooMuch n) → (b ≡ true) × (n ≡ length xs)
 within_err n xs true e = (refl, (cc))
@@ -80,46 +118,52 @@ within_not_empty xs false e = (cc)
 above : (n m : ℕ) → nat_lt n m ≡ true → n < m
 above n m h = grind (arith, nat_tests)
 
-body_is : (max : ℕ) (rows : List Row) (places : List ℕ) (body : List ℕ) → body_or_empty max rows places ≡ Ok body → (places ≢ []) × (body ≡ images_at rows places)
+not_above : (n m : ℕ) → nat_lt n m ≡ false → m ≤ n
+not_above n m h = grind (arith, nat_tests)
+
+body_is : (max : ℕ) (rows : List Row) (places : List ℕ) (body : List ℕ) → body_or_empty max rows places ≡ Ok body → (places ≢ []) × (body ≡ images_at rows places) × (length body ≤ max)
 body_is max rows [] body e = absurd (cc)
-body_is max rows (p ∷ ps) body e = (λ none. cc, sym (within_ok (images_at rows (p ∷ ps)) body (nat_lt max (length (images_at rows (p ∷ ps)))) e))
+body_is max rows (p ∷ ps) body e =
+    let h = within_ok (images_at rows (p ∷ ps)) body (nat_lt max (length (images_at rows (p ∷ ps)))) e in
+    let most = not_above max (length (images_at rows (p ∷ ps))) h.0 in
+    (λ none. cc, sym h.1, omega (arith, most, ap length h.1))
 
 none_are : (max : ℕ) (rows : List Row) (places : List ℕ) → body_or_empty max rows places ≡ Err Empty → places ≡ []
 none_are max rows [] e = refl
 none_are max rows (p ∷ ps) e = absurd (within_not_empty (images_at rows (p ∷ ps)) (nat_lt max (length (images_at rows (p ∷ ps)))) e)
 
-too_many : (max n : ℕ) (rows : List Row) (places : List ℕ) → body_or_empty max rows places ≡ Err (TooMuch n) → (n ≡ length (images_at rows places)) × (max < n)
+too_many : (max n : ℕ) (rows : List Row) (places : List ℕ) → body_or_empty max rows places ≡ Err (TooMuch n) → (places ≢ []) × (n ≡ length (images_at rows places)) × (max < n)
 too_many max n rows [] e = absurd (cc)
 too_many max n rows (p ∷ ps) e =
     let h = within_err n (images_at rows (p ∷ ps)) (nat_lt max (length (images_at rows (p ∷ ps)))) e in
     let more = above max (length (images_at rows (p ∷ ps))) h.0 in
-    (h.1, omega (arith, h.1, more))
+    (λ none. cc, h.1, omega (arith, h.1, more))
 
-pub body_row : (query : DataQuery) (input body : List ℕ) (rows : List Row) → AreRecords input 0 epoch rows → answer_of all_seen query MAX_BYTES (held_rows rows) ≡ Ok body → IsBodyOf query input body
-body_row query input body rows records e =
+pub body_row : (query : DataQuery) (input body : List ℕ) (rows : List Row) → length input ≤ MAX_INPUT → AreRecords input 0 epoch rows → answer_of all_seen query MAX_BYTES (held_rows rows) ≡ Ok body → IsBodyOf query input body
+body_row query input body rows within records e =
     let h = body_is MAX_BYTES (held_rows rows) (places_for query rows) body e in
-    record { rows = rows; records = records; some = h.0; body_is = h.1 }
+    record { within = within; rows = rows; records = records; some = h.0; body_is = h.1; fits = h.2 }
 
-pub data_row : (query : DataQuery) (input : List ℕ) (rows : List Row) (refusal : DataRefusal) → AreRecords input 0 epoch rows → RefusesAs (answer_of all_seen query MAX_BYTES (held_rows rows)) refusal
-    → StopsWith (RefusesInput query input) (stop_for_data refusal)
-data_row query input rows Empty records e = record { rows = rows; records = records; none = none_are MAX_BYTES (held_rows rows) (places_for query rows) e }
-data_row query input rows (TooMuch n) records e =
+pub data_row : (query : DataQuery) (input : List ℕ) (rows : List Row) (refusal : DataRefusal) → length input ≤ MAX_INPUT → AreRecords input 0 epoch rows
+    → RefusesAs (answer_of all_seen query MAX_BYTES (held_rows rows)) refusal → StopsWith (RefusesInput query input) (stop_for_data refusal)
+data_row query input rows Empty within records e = record { within = within; rows = rows; records = records; none = none_are MAX_BYTES (held_rows rows) (places_for query rows) e }
+data_row query input rows (TooMuch n) within records e =
     let h = too_many MAX_BYTES n (held_rows rows) (places_for query rows) e in
-    record { rows = rows; records = records; bytes_is = h.0; limit_is = refl; above = h.1 }
-data_row query input rows NoMemory records e = tt
+    record { within = within; rows = rows; records = records; some = h.0; bytes_is = h.1; limit_is = refl; above = h.2 }
+data_row query input rows NoMemory within records e = tt
 
 -- records that are refused
-pub records_row : (query : DataQuery) (input : List ℕ) (stop : Stop) → StopsWith (RefusesRecords input) stop → StopsWith (RefusesInput query input) stop
-records_row query input (Refused (Record at fault)) why = why
-records_row query input (Refused UnknownCommand) why = absurd why
-records_row query input (Refused (Value word)) why = absurd why
-records_row query input (Refused Order) why = absurd why
-records_row query input (Refused NoData) why = absurd why
-records_row query input (Refused (TooLarge bytes limit)) why = absurd why
-records_row query input (Refused InputTooLong) why = absurd why
-records_row query input OutOfMemory why = tt
-records_row query input ReadFault why = absurd why
-records_row query input WriteFault why = absurd why
+pub records_row : (query : DataQuery) (input : List ℕ) (stop : Stop) → length input ≤ MAX_INPUT → StopsWith (RefusesRecords input) stop → StopsWith (RefusesInput query input) stop
+records_row query input (Refused (Record at fault)) within why = record { within = within; first = why }
+records_row query input (Refused UnknownCommand) within why = absurd why
+records_row query input (Refused (Value word)) within why = absurd why
+records_row query input (Refused Order) within why = absurd why
+records_row query input (Refused NoData) within why = absurd why
+records_row query input (Refused (TooLarge bytes limit)) within why = absurd why
+records_row query input (Refused InputTooLong) within why = absurd why
+records_row query input OutOfMemory within why = tt
+records_row query input ReadFault within why = absurd why
+records_row query input WriteFault within why = absurd why
 
 -- nothing was told
 pub tells_nothing : (s : Stream) → Tells s s []

@@ -1,27 +1,40 @@
 -- The six words of `select`, and why one of them can't be read.
-use Rattle.std.proofs.Common.{◌≡◌, ℕ, Bool, true, false, ◌&&◌, cond, List, [], ◌∷◌, length, get_or, drop, map, Some, None, arith, refl, sym, ◌∙◌, ap, codes, ◌⊎◌, inl, inr}
+use Rattle.std.proofs.Common.{◌≡◌, ℕ, Bool, true, false, ◌&&◌, cond, List, [], ◌∷◌, ◌++◌, subst, length, get_or, drop, map, Some, None, arith, refl, sym, ◌∙◌, ap, codes, ◌⊎◌, inl, inr}
 use Rattle.std.specs.Prelude.{String, string_bytes}
-use Rattle.std.specs.List.{list_all}
+use Rattle.std.specs.List.{list_all, AllByRecursion}
 use Rattle.std.specs.Str.{bytes_eq}
 use Rattle.std.specs.declared.alloc.Global.{Global}
 use Rattle.std.proofs.lemmas.Bool.{and_from, and_left, and_right}
 use Rattle.std.proofs.lemmas.Slice.Eq.{bytes_eq-Decides}
-use Rattle.list_laws.proofs.Refusals.{no_values}
-use Rattle.channel_globs.specs.PatternText.{RefusesList, item_of, words_of}
+use Rattle.channel_globs.proofs.OneList.{no_list}
+use Rattle.channel_globs.specs.PatternText.{RefusesList}
 use Rattle.channel_globs.specs.declared.nslc.Part.{Part}
 use Rattle.channel_globs.specs.declared.patterns.GlobFault.{GlobFault}
 use Rattle.channel_globs.specs.declared.patterns.GlobFault.TheVariants.{TooMany, Character, Length, OutOfMemory}
 use Rattle.centre.specs.declared.ending.Word.{Word}
+use Rattle.centre.specs.declared.ending.Refusal.{Refusal}
 use Rattle.centre.specs.declared.ending.Refusal.TheVariants.{Value}
-use Rattle.centre.specs.Words.{SelectWords, IsList, StopsWith, select_words_of, is_position, stop_for}
+use Rattle.centre.specs.declared.ending.Stop.{Stop}
+use Rattle.centre.specs.declared.ending.Stop.TheVariants.{Refused, ReadFault, WriteFault, OutOfMemory as NoMemory}
+use Rattle.centre.specs.Commands.{SelectWords, select_words_of, is_position}
+use Rattle.centre.specs.Words.{CanRead, IsList, RefusesWords, StopsWith, tested_words, stop_for}
 
 -- a fault of a code word is no pattern list
-pub no_list : (part : Part) (text : List ℕ) (fault : GlobFault) (word : Word) → RefusesList part text fault
+pub refused_list : (part : Part) (text : List ℕ) (fault : GlobFault) (word : Word) → RefusesList part text fault
     → StopsWith (λ refusal. (refusal ≡ Value word) × (IsList part text → ⊥)) (stop_for fault word)
-no_list part text TooMany word h = (refl, λ list. absurd (omega (arith, h, list.1.few)))
-no_list part text Character word h = (refl, λ list. no_values (item_of part) (words_of text) Character list.0 h.1 list.1.each)
-no_list part text Length word h = (refl, λ list. no_values (item_of part) (words_of text) Length list.0 h.1 list.1.each)
-no_list part text OutOfMemory word h = tt
+refused_list part text TooMany word h = (refl, λ list. no_list part text list.0 TooMany list.1 h)
+refused_list part text Character word h = (refl, λ list. no_list part text list.0 Character list.1 h)
+refused_list part text Length word h = (refl, λ list. no_list part text list.0 Length list.1 h)
+refused_list part text OutOfMemory word h = tt
+
+-- the first word that can't be read
+pub first_word : (w : SelectWords) (word : Word) (before after : List Word) → tested_words ≡ before ++ word ∷ after → AllByRecursion (CanRead w) before → (stop : Stop)
+    → StopsWith (λ refusal. (refusal ≡ Value word) × (CanRead w word → ⊥)) stop → StopsWith (RefusesWords w) stop
+first_word w word before after split all (Refused refusal) h =
+    subst (λ (r : Refusal). RefusesWords w r) (sym h.0) (record { before = before; after = after; split = split; all = all; lacks = h.1 })
+first_word w word before after split all NoMemory h = tt
+first_word w word before after split all ReadFault h = absurd h
+first_word w word before after split all WriteFault h = absurd h
 
 abbrev words_from : List ℕ → List ℕ → List ℕ → List ℕ → List ℕ → List ℕ → SelectWords
 words_from b c d e f g = record { network = b; station = c; location = d; channel = e; start = f; end = g }

@@ -1,6 +1,7 @@
 -- What the words and the input determine: the body that is written, or why there is none.
-use Rattle.std.specs.Prelude.{◌≡◌, ◌≢◌, ℕ, ◌<◌, Bool, true, pos, List, [], length}
+use Rattle.std.specs.Prelude.{◌≡◌, ◌≢◌, ◌⊎◌, ℕ, ◌<◌, ◌≤◌, Bool, true, pos, List, [], length, Option, Some, None, Result, Ok, Err}
 use Rattle.exact_time.specs.declared.moment.Moment.{Moment}
+use Rattle.mseed_header.specs.declared.header.RecordFault.{RecordFault}
 use Rattle.mseed_header.specs.declared.row.Row.{Row}
 use Rattle.mseed_header.specs.Records.{AreRecords, IsFirstBad}
 use Rattle.dataselect.specs.declared.query.DataQuery.{DataQuery}
@@ -8,12 +9,15 @@ use Rattle.dataselect.specs.Rows.{held_rows}
 use Rattle.dataselect.specs.Chosen.{chosen_places}
 use Rattle.dataselect.specs.DataBody.{data_body}
 use Rattle.centre.specs.declared.TheConstants.{MAX_INPUT, MAX_BYTES}
+use Rattle.centre.specs.declared.help.TheConstants.{HELP, VERSION}
+use Rattle.centre.specs.Commands.{SelectWords, Command, select, help, version}
+use Rattle.centre.specs.Words.{IsSelectQuery, RefusesWords}
 use Rattle.dataselect.specs.declared.answers.DataRefusal.{DataRefusal}
 use Rattle.dataselect.specs.declared.answers.DataRefusal.TheVariants.{Empty, TooLarge as TooMuch, OutOfMemory as NoMemory}
 use Rattle.centre.specs.declared.ending.Stop.{Stop}
 use Rattle.centre.specs.declared.ending.Stop.TheVariants.{Refused, OutOfMemory}
 use Rattle.centre.specs.declared.ending.Refusal.{Refusal}
-use Rattle.centre.specs.declared.ending.Refusal.TheVariants.{Record, NoData, TooLarge, InputTooLong}
+use Rattle.centre.specs.declared.ending.Refusal.TheVariants.{UnknownCommand, Record, NoData, TooLarge, InputTooLong}
 
 abbrev pub epoch : Moment
 epoch = record { micros = pos 0 }
@@ -33,24 +37,34 @@ body_for query rows = data_body all_seen query (held_rows rows)
 -- The input is plain records end to end, and this is the data body of its rows. The rows have entry 0
 -- and the moment 0, and some is chosen.
 pub record IsBodyOf (query : DataQuery) (input body : List ℕ) : Type 0 where
+  pub within : length input ≤ MAX_INPUT
   pub rows : List Row
   pub records : AreRecords input 0 epoch rows
   pub some : places_for query rows ≢ []
   pub body_is : body ≡ body_for query rows
+  pub fits : length body ≤ MAX_BYTES
 
 -- the input is plain records, and none is chosen
 pub record HasNoData (query : DataQuery) (input : List ℕ) : Type 0 where
+  pub within : length input ≤ MAX_INPUT
   pub rows : List Row
   pub records : AreRecords input 0 epoch rows
   pub none : places_for query rows ≡ []
 
 -- the input is plain records, and the chosen ones have so many bytes, more than the limit
 pub record HasTooMuch (query : DataQuery) (input : List ℕ) (bytes limit : ℕ) : Type 0 where
+  pub within : length input ≤ MAX_INPUT
   pub rows : List Row
   pub records : AreRecords input 0 epoch rows
+  pub some : places_for query rows ≢ []
   pub bytes_is : bytes ≡ length (body_for query rows)
   pub limit_is : limit ≡ MAX_BYTES
   pub above : limit < bytes
+
+-- the input isn't too long, and the record at this offset is the first that is refused
+pub record HasBadRecord (input : List ℕ) (at : ℕ) (fault : RecordFault) : Type 0 where
+  pub within : length input ≤ MAX_INPUT
+  pub first : IsFirstBad input at fault
 
 -- why an input is no records end to end
 abbrev pub RefusesRecords : List ℕ → Refusal → Type 0
@@ -65,8 +79,21 @@ stop_for_data NoMemory = OutOfMemory
 
 -- why an input has no body for a query
 abbrev pub RefusesInput : DataQuery → List ℕ → Refusal → Type 0
-RefusesInput query input (Record at fault) = IsFirstBad input at fault
+RefusesInput query input (Record at fault) = HasBadRecord input at fault
 RefusesInput query input NoData = HasNoData query input
 RefusesInput query input (TooLarge bytes limit) = HasTooMuch query input bytes limit
 RefusesInput query input InputTooLong = MAX_INPUT < length input
 RefusesInput query input _ = ⊥
+
+-- the words of `select` and the input give this body, or are refused: the words before the input
+abbrev pub IsSelectAnswer : SelectWords → List ℕ → Result (List ℕ) Refusal → Type 0
+IsSelectAnswer w input (Ok body) = (query : DataQuery) × IsSelectQuery w query × IsBodyOf query input body
+IsSelectAnswer w input (Err refusal) =
+    RefusesWords w refusal ⊎ ((query : DataQuery) × IsSelectQuery w query × RefusesInput query input refusal)
+
+-- What the words and the input determine, by cases on the command: what is written, or why nothing is.
+abbrev pub IsAnswer : Option Command → List ℕ → Result (List ℕ) Refusal → Type 0
+IsAnswer None input answer = answer ≡ Err UnknownCommand
+IsAnswer (Some help) input answer = answer ≡ Ok HELP.now
+IsAnswer (Some version) input answer = answer ≡ Ok VERSION.now
+IsAnswer (Some (select w)) input answer = IsSelectAnswer w input answer

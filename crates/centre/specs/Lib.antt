@@ -1,6 +1,8 @@
 pub mod Answers
+pub mod Commands
 pub mod Memory
 pub mod Positions
+pub mod Settled
 pub mod Status
 pub mod Streams
 pub mod Table

@@ -1,6 +1,8 @@
--- The texts of the positions that the code lends.
-use Rattle.centre.specs.declared.words.Positions.{Positions}
-use Rattle.centre.specs.Words.{SelectWords}
+-- The texts of the words that the code lends.
+use Rattle.centre.specs.declared.commands.Positions.{Positions}
+use Rattle.centre.specs.declared.commands.CommandWords.{CommandWords}
+use Rattle.centre.specs.declared.commands.CommandWords.TheVariants.{Select, Help, Version}
+use Rattle.centre.specs.Commands.{SelectWords, Command, select, help, version}
 
 abbrev pub words_at : Positions → SelectWords
 words_at p = record {
@@ -11,3 +13,8 @@ words_at p = record {
   start = p.start.now;
   end = p.end.now;
 }
+
+abbrev pub command_at : CommandWords → Command
+command_at (Select positions) = select (words_at positions)
+command_at Help = help
+command_at Version = version

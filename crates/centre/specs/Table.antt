@@ -1,17 +1,19 @@
 -- The table of endings: when each status comes, and what it leaves.
-use Rattle.std.specs.Prelude.{◌≡◌, ◌⊎◌, ℕ, List, Result, Ok, Err}
-use Rattle.std.specs.declared.option.Option.{Option}
+use Rattle.std.specs.Prelude.{◌≡◌, ◌⊎◌, ℕ, List, Option, Some, None, Result, Ok, Err}
 use Rattle.std.specs.Io.KnownBytes.{IsAtEnd}
 use Rattle.exact_time.specs.Causes.{Rose}
 use Rattle.dataselect.specs.declared.query.DataQuery.{DataQuery}
+use Rattle.centre.specs.declared.help.TheConstants.{HELP, VERSION}
 use Rattle.centre.specs.declared.ending.Refusal.{Refusal}
+use Rattle.centre.specs.declared.ending.Refusal.TheVariants.{UnknownCommand, Record, TooLarge}
 use Rattle.centre.specs.declared.ending.Stop.{Stop}
 use Rattle.centre.specs.declared.ending.Stop.TheVariants.{Refused, ReadFault, WriteFault, OutOfMemory}
-use Rattle.centre.specs.Answers.{IsBodyOf, RefusesInput}
+use Rattle.centre.specs.Answers.{RefusesInput, IsSelectAnswer}
+use Rattle.centre.specs.Commands.{SelectWords, Command, select, help, version}
 use Rattle.centre.specs.Status.{status_of_run, text_of_run}
 use Rattle.centre.specs.Streams.{Grew}
 use Rattle.centre.specs.Transfer.{Had, WritesPart}
-use Rattle.centre.specs.Words.{Text, IsQueryOf, RefusesCommand}
+use Rattle.centre.specs.Words.{IsSelectQuery, RefusesWords}
 
 -- what is known of a source or a sink at one moment: the bytes left or written, and its faults
 pub record Stream : Type 0 where
@@ -29,65 +31,89 @@ pub record World : Type 0 where
 abbrev pub world : Stream → Stream → World
 world source sink = record { source = source; sink = sink }
 
--- The words spell a query, the source had an input, whose data body for the query this is.
-pub record HasBody (words : List Text) (left : Option (List ℕ)) (body : List ℕ) : Type 0 where
+-- Status 0 of `select`: the input was read to its end, and the sink got the body that the words and the
+-- input give.
+pub record IsSelected (w : SelectWords) (before after : World) : Type 0 where
   pub input : List ℕ
-  pub query : DataQuery
-  pub had : Had left input
-  pub asked : IsQueryOf words query
-  pub answer : IsBodyOf query input body
-
--- status 0: the input was read to its end, and the sink got its data body
-pub record IsSelected (words : List Text) (before after : World) : Type 0 where
   pub body : List ℕ
-  pub has : HasBody words before.source.bytes body
+  pub had : Had before.source.bytes input
+  pub answer : IsSelectAnswer w input (Ok body)
   pub end : IsAtEnd after.source.bytes
   pub output : Grew before.sink.bytes after.sink.bytes body
 
 -- the words are refused: nothing is read, and nothing is written
-pub record IsRefusedByWords (words : List Text) (before after : World) (refusal : Refusal) : Type 0 where
-  pub why : RefusesCommand words refusal
+pub record IsRefusedByWords (w : SelectWords) (before after : World) (refusal : Refusal) : Type 0 where
+  pub why : RefusesWords w refusal
   pub same : after ≡ before
 
 -- the input is refused: nothing is written
-pub record IsRefusedByInput (words : List Text) (before after : World) (refusal : Refusal) : Type 0 where
+pub record IsRefusedByInput (w : SelectWords) (before after : World) (refusal : Refusal) : Type 0 where
   pub input : List ℕ
   pub query : DataQuery
   pub had : Had before.source.bytes input
-  pub asked : IsQueryOf words query
+  pub asked : IsSelectQuery w query
   pub why : RefusesInput query input refusal
   pub kept : after.sink ≡ before.sink
 
 -- reading stopped at a fault of the source: nothing is written
-pub record IsReadStopped (words : List Text) (before after : World) : Type 0 where
+pub record IsReadStopped (w : SelectWords) (before after : World) : Type 0 where
   pub query : DataQuery
-  pub asked : IsQueryOf words query
+  pub asked : IsSelectQuery w query
   pub rose : Rose before.source.faults after.source.faults
   pub kept : after.sink ≡ before.sink
 
--- writing stopped at a fault of the sink, after a first part of the data body
-pub record IsWriteStopped (words : List Text) (before after : World) : Type 0 where
+-- writing stopped at a fault of the sink, after a first part of the body
+pub record IsWriteStopped (w : SelectWords) (before after : World) : Type 0 where
+  pub input : List ℕ
   pub body : List ℕ
-  pub has : HasBody words before.source.bytes body
+  pub had : Had before.source.bytes input
+  pub answer : IsSelectAnswer w input (Ok body)
   pub rose : Rose before.sink.faults after.sink.faults
   pub output : WritesPart before.sink.bytes after.sink.bytes body
 
--- the row of a stop; want of memory is free, and leaves the sink as it was
-abbrev pub StopRow : List Text → World → World → Stop → Type 0
-StopRow words before after (Refused refusal) =
-    IsRefusedByWords words before after refusal ⊎ IsRefusedByInput words before after refusal
-StopRow words before after ReadFault = IsReadStopped words before after
-StopRow words before after WriteFault = IsWriteStopped words before after
-StopRow words before after OutOfMemory = after.sink ≡ before.sink
+-- the rows of `select`; want of memory is free, and leaves the sink as it was
+abbrev pub SelectRow : SelectWords → World → World → Result (Unit {0}) Stop → Type 0
+SelectRow w before after (Ok done) = IsSelected w before after
+SelectRow w before after (Err (Refused refusal)) =
+    IsRefusedByWords w before after refusal ⊎ IsRefusedByInput w before after refusal
+SelectRow w before after (Err ReadFault) = IsReadStopped w before after
+SelectRow w before after (Err WriteFault) = IsWriteStopped w before after
+SelectRow w before after (Err OutOfMemory) = after.sink ≡ before.sink
 
-abbrev pub SelectRow : List Text → World → World → Result (Unit {0}) Stop → Type 0
-SelectRow words before after (Ok done) = IsSelected words before after
-SelectRow words before after (Err stop) = StopRow words before after stop
+-- a text is shown: nothing is read, and the sink got the text
+pub record IsShown (text : List ℕ) (before after : World) : Type 0 where
+  pub unread : after.source ≡ before.source
+  pub output : Grew before.sink.bytes after.sink.bytes text
 
--- what a stop becomes where its text can't be made for want of memory; a write fault needs none
+-- showing stopped at a fault of the sink, after a first part of the text
+pub record IsShowStopped (text : List ℕ) (before after : World) : Type 0 where
+  pub unread : after.source ≡ before.source
+  pub rose : Rose before.sink.faults after.sink.faults
+  pub output : WritesPart before.sink.bytes after.sink.bytes text
+
+-- the rows of a command that shows a text
+abbrev pub ShowRow : List ℕ → World → World → Result (Unit {0}) Stop → Type 0
+ShowRow text before after (Ok done) = IsShown text before after
+ShowRow text before after (Err WriteFault) = IsShowStopped text before after
+ShowRow text before after (Err _) = ⊥
+
+-- the row of words that are no command: nothing is read, and nothing is written
+abbrev pub UnknownRow : World → World → Result (Unit {0}) Stop → Type 0
+UnknownRow before after (Err (Refused UnknownCommand)) = after ≡ before
+UnknownRow before after _ = ⊥
+
+-- The table, by cases on the command: how a run ends, why, and what it leaves.
+abbrev pub Row : Option Command → World → World → Result (Unit {0}) Stop → Type 0
+Row None before after ending = UnknownRow before after ending
+Row (Some help) before after ending = ShowRow HELP.now before after ending
+Row (Some version) before after ending = ShowRow VERSION.now before after ending
+Row (Some (select w)) before after ending = SelectRow w before after ending
+
+-- What a stop is told as: itself, or want of memory where a text with numbers can't be made.
 abbrev pub ToldFor : Stop → Stop → Type 0
-ToldFor WriteFault told = told ≡ WriteFault
-ToldFor stop told = (told ≡ stop) ⊎ (told ≡ OutOfMemory)
+ToldFor (Refused (Record at fault)) told = (told ≡ Refused (Record at fault)) ⊎ (told ≡ OutOfMemory)
+ToldFor (Refused (TooLarge bytes limit)) told = (told ≡ Refused (TooLarge bytes limit)) ⊎ (told ≡ OutOfMemory)
+ToldFor stop told = told ≡ stop
 
 -- the text was written, or a first part of it where the stream failed
 pub record Tells (old new : Stream) (text : List ℕ) : Type 0 where
@@ -95,8 +121,8 @@ pub record Tells (old new : Stream) (text : List ℕ) : Type 0 where
   pub whole : Grew old.bytes new.bytes text ⊎ Rose old.faults new.faults
 
 -- a run from one moment to another with this status, and what it writes on the errors
-pub record IsRun (words : List Text) (before after : World) (old new : Stream) (status : ℕ) : Type 0 where
+pub record IsRun (command : Option Command) (before after : World) (old new : Stream) (status : ℕ) : Type 0 where
   pub ending : Result (Unit {0}) Stop
-  pub row : SelectRow words before after ending
+  pub row : Row command before after ending
   pub status_is : status ≡ status_of_run ending
   pub text : Tells old new (text_of_run ending)

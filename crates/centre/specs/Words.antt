@@ -1,7 +1,6 @@
--- What the words of the command line ask for.
-use Rattle.std.specs.Prelude.{◌≡◌, ◌≤ℤ◌, ◌<ℤ◌, ◌==◌, ◌&&◌, ℕ, ℤ, Bool, false, not, if◌then◌else◌, List, [], ◌∷◌, codes, slice_index, Option, Some, None, ⊤}
-use Rattle.std.specs.List.{list_all}
-use Rattle.std.specs.Str.{bytes_eq}
+-- What the words of `select` ask for.
+use Rattle.std.specs.Prelude.{◌≡◌, ◌≤ℤ◌, ◌<ℤ◌, ℤ, false, List, [], ◌∷◌, Some, None, ⊤}
+use Rattle.list_laws.specs.Faults.{IsFirstWithout}
 use Rattle.exact_time.specs.MomentText.{IsMoment}
 use Rattle.exact_time.specs.declared.moment.Moment.{Moment}
 use Rattle.channel_globs.specs.PatternText.{IsPatternList}
@@ -15,33 +14,10 @@ use Rattle.channel_globs.specs.declared.patterns.GlobFault.TheVariants.{TooMany,
 use Rattle.centre.specs.declared.ending.Word.{Word}
 use Rattle.centre.specs.declared.ending.Word.TheVariants.{Network as NetworkWord, Station as StationWord, Location as LocationWord, Channel as ChannelWord, Start as StartWord, End as EndWord}
 use Rattle.centre.specs.declared.ending.Refusal.{Refusal}
-use Rattle.centre.specs.declared.ending.Refusal.TheVariants.{UnknownCommand, Value, Order}
+use Rattle.centre.specs.declared.ending.Refusal.TheVariants.{Value, Order}
 use Rattle.centre.specs.declared.ending.Stop.{Stop}
 use Rattle.centre.specs.declared.ending.Stop.TheVariants.{Refused, OutOfMemory}
-
-abbrev pub Text : Type 0
-Text = List ℕ
-
--- the six words of `select` behind its name
-pub record SelectWords : Type 0 where
-  pub network : Text
-  pub station : Text
-  pub location : Text
-  pub channel : Text
-  pub start : Text
-  pub end : Text
-
--- a word that begins with a hyphen is no position
-abbrev pub is_position : Text → Bool
-is_position word = not (slice_index word 0 == 45)
-
--- the words are `select` and six positions, or they are no command
-abbrev pub select_words_of : List Text → Option SelectWords
-select_words_of (command ∷ network ∷ station ∷ location ∷ channel ∷ start ∷ end ∷ []) =
-    if bytes_eq command (codes "select") && list_all is_position (network ∷ station ∷ location ∷ channel ∷ start ∷ end ∷ [])
-    then Some (record { network = network; station = station; location = location; channel = channel; start = start; end = end })
-    else None
-select_words_of _ = None
+use Rattle.centre.specs.Commands.{Text, SelectWords}
 
 -- the pattern lists are those that the four code words spell
 pub record IsNamed (w : SelectWords) (s : Selection) : Type 0 where
@@ -89,15 +65,18 @@ pub record AreLists (w : SelectWords) : Type 0 where
   pub location_is : IsList Location w.location
   pub channel_is : IsList Channel w.channel
 
--- this word can't be read, and each before it can
-abbrev pub IsFirstBadWord : SelectWords → Word → Type 0
-IsFirstBadWord w NetworkWord = ¬ (IsList Network w.network)
-IsFirstBadWord w StationWord = IsList Network w.network × (¬ (IsList Station w.station))
-IsFirstBadWord w LocationWord = IsList Network w.network × IsList Station w.station × (¬ (IsList Location w.location))
-IsFirstBadWord w ChannelWord =
-    IsList Network w.network × IsList Station w.station × IsList Location w.location × (¬ (IsList Channel w.channel))
-IsFirstBadWord w StartWord = AreLists w × (¬ (IsTime w.start))
-IsFirstBadWord w EndWord = AreLists w × IsTime w.start × (¬ (IsTime w.end))
+-- the word can be read
+abbrev pub CanRead : SelectWords → Word → Type 0
+CanRead w NetworkWord = IsList Network w.network
+CanRead w StationWord = IsList Station w.station
+CanRead w LocationWord = IsList Location w.location
+CanRead w ChannelWord = IsList Channel w.channel
+CanRead w StartWord = IsTime w.start
+CanRead w EndWord = IsTime w.end
+
+-- the words in the order in which they are tested
+abbrev pub tested_words : List Word
+tested_words = NetworkWord ∷ StationWord ∷ LocationWord ∷ ChannelWord ∷ StartWord ∷ EndWord ∷ []
 
 -- every word can be read, and the start is after the end
 pub record IsBackwards (w : SelectWords) : Type 0 where
@@ -108,28 +87,11 @@ pub record IsBackwards (w : SelectWords) : Type 0 where
   pub to_is : IsMoment w.end to
   pub order : to <ℤ from
 
--- why the words of `select` are refused
+-- why the words of `select` are refused: the first that can't be read, or else the order of the times
 abbrev pub RefusesWords : SelectWords → Refusal → Type 0
-RefusesWords w (Value word) = IsFirstBadWord w word
+RefusesWords w (Value word) = IsFirstWithout (CanRead w) tested_words word
 RefusesWords w Order = IsBackwards w
 RefusesWords w _ = ⊥
-
--- the words spell this query
-abbrev pub IsQueryAt : Option SelectWords → DataQuery → Type 0
-IsQueryAt None query = ⊥
-IsQueryAt (Some w) query = IsSelectQuery w query
-
-abbrev pub IsQueryOf : List Text → DataQuery → Type 0
-IsQueryOf words query = IsQueryAt (select_words_of words) query
-
--- why the words spell no query
-abbrev pub RefusesAt : Option SelectWords → Refusal → Type 0
-RefusesAt None UnknownCommand = ⊤
-RefusesAt None _ = ⊥
-RefusesAt (Some w) refusal = RefusesWords w refusal
-
-abbrev pub RefusesCommand : List Text → Refusal → Type 0
-RefusesCommand words refusal = RefusesAt (select_words_of words) refusal
 
 -- why no query was read; want of memory is free
 abbrev pub StopsWith : (Refusal → Type 0) → Stop → Type 0

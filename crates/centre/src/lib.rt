@@ -10,11 +10,14 @@
 #![tactic(auto)]
 
 mod adapters;
+mod commands;
 mod ending;
+mod help;
 mod memory;
 mod running;
 mod select;
 mod streams;
+mod telling;
 #[cfg(test)]
 mod tests;
 mod transfer;
@@ -22,9 +25,11 @@ mod words;
 
 pub use adapters::{StdSink, StdSource};
 pub use ending::{Refusal, Stop, Word};
+pub use help::{HELP, VERSION};
 pub use memory::{MemorySink, MemorySource};
-pub use running::{out_of_memory, run};
+pub use running::run;
 pub use streams::{Sink, Source};
+pub use telling::out_of_memory;
 
 /// How many bytes the input of `select` may have.
 pub const MAX_INPUT: usize = 67_108_864;

@@ -1,5 +1,5 @@
 //! A source and a sink in memory, which fail at the calls that they are told.
-ghost use Rattle.std.specs.Prelude.{◌≡◌, [], List, Some, take, min, length};
+ghost use Rattle.std.specs.Prelude.{◌≡◌, ◌≤◌, [], List, Some, take, min, length};
 ghost use Rattle.std.specs.List.{flat_map};
 ghost use Rattle.std.specs.Option.{option_map};
 ghost use Rattle.centre.specs.Memory.{bytes_left, told};
@@ -23,7 +23,8 @@ pub struct MemorySource {
 impl MemorySource {
     /// A source of these pieces, which fails at these calls.
     pub fn new(pieces: Many<Bytes>, fails: Many<u64>) -> Self
-        ensures { ⟦<MemorySource as Source>⟧.left result ≡ Some (flat_map (λ piece. piece) pieces) }
+        ensures left { ⟦<MemorySource as Source>⟧.left result ≡ Some (flat_map (λ piece. piece) pieces) }
+        ensures faults { ⟦<MemorySource as Source>⟧.faults result ≡ 0 }
     {
         MemorySource {
             pieces,
@@ -71,27 +72,47 @@ impl Source for MemorySource {
     }
 }
 
-/// Takes whole pieces, and fails at the calls numbered in `fails`, from 1. Where memory doesn't
-/// suffice for a piece, it takes the piece and from then on doesn't tell what was written.
+/// Takes whole pieces, and fails at the calls numbered in `fails`, from 1; or takes what there is room
+/// for, and then fails. Where memory doesn't suffice for a piece, it takes the piece and from then on
+/// doesn't tell what was written.
 #[derive(Drop)]
 pub struct MemorySink {
     bytes: Bytes,
     // Whether a piece was lost for want of memory.
     lost: bool,
     fails: Many<u64>,
+    // How many bytes more it takes, where that is limited.
+    room: Option<u64>,
     calls: u64,
     faults: u64,
 }
 
 impl MemorySink {
-    /// A sink to which nothing was written yet.
+    /// A sink to which nothing was written yet, which fails at these calls.
     pub fn new(alloc: Global, fails: Many<u64>) -> Self
-        ensures { ⟦<MemorySink as Sink>⟧.written result ≡ Some [] }
+        ensures written { ⟦<MemorySink as Sink>⟧.written result ≡ Some [] }
+        ensures faults { ⟦<MemorySink as Sink>⟧.faults result ≡ 0 }
     {
         MemorySink {
             bytes: Bytes::new(alloc),
             lost: false,
             fails,
+            room: None,
+            calls: 0,
+            faults: 0,
+        }
+    }
+
+    /// A sink to which nothing was written yet, which fails once it took `room` bytes.
+    pub fn limited(alloc: Global, room: u64) -> Self
+        ensures written { ⟦<MemorySink as Sink>⟧.written result ≡ Some [] }
+        ensures faults { ⟦<MemorySink as Sink>⟧.faults result ≡ 0 }
+    {
+        MemorySink {
+            bytes: Bytes::new(alloc),
+            lost: false,
+            fails: Many::new(alloc),
+            room: Some(room),
             calls: 0,
             faults: 0,
         }
@@ -109,6 +130,24 @@ impl MemorySink {
     }
 }
 
+// How many bytes of a piece there is room for.
+fn fitting(room: Option<u64>, size: usize) -> usize
+    ensures { result ≤ size }
+{
+    match room {
+        Some(room) if room < size as u64 => room as usize,
+        _ => size,
+    }
+}
+
+// The room that is left after so many bytes.
+fn left(room: Option<u64>, count: usize) -> Option<u64> {
+    match room {
+        Some(room) => Some(room.saturating_sub(count as u64)),
+        None => None,
+    }
+}
+
 impl Sink for MemorySink {
     ghost written = { λ s. told s.bytes s.lost };
 
@@ -116,13 +155,16 @@ impl Sink for MemorySink {
 
     fn put(&mut self, piece: &[u8]) -> Result<usize, Failed> {
         self.calls = self.calls.saturating_add(1);
-        if self.fails.as_slice().contains(&self.calls) {
+        let count = fitting(self.room, piece.len());
+        let is_full = count == 0 && !piece.is_empty();
+        if is_full || self.fails.as_slice().contains(&self.calls) {
             self.faults = self.faults.saturating_add(1);
             return Err(Failed);
         }
-        if self.bytes.extend(piece).is_err() {
+        if self.bytes.extend(&piece[..count]).is_err() {
             self.lost = true;
         }
-        Ok(piece.len())
+        self.room = left(self.room, count);
+        Ok(count)
     }
 }

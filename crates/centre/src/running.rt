@@ -1,34 +1,36 @@
 //! The top call: all that the program does.
-ghost use Rattle.std.specs.Prelude.{◌≡◌, map, string_bytes, IfOk};
-ghost use Rattle.centre.specs.Status.{name_of_word, name_of_fault, text_of, text_of_refusal};
-ghost use Rattle.centre.specs.Table.{IsRun, IsSelected, SelectRow, Tells, ToldFor, stream, world};
-ghost use Rattle.centre.specs.Words.{RefusesCommand};
+ghost use Rattle.std.specs.Prelude.{◌≡◌, ◌≢◌, ◌↔◌, map, string_bytes, None, Err};
 ghost use Rattle.exact_time.specs.Causes.{Rose};
+ghost use Rattle.centre.specs.Answers.{IsAnswer};
+ghost use Rattle.centre.specs.Commands.{command_of};
+ghost use Rattle.centre.specs.Positions.{words_at};
+ghost use Rattle.centre.specs.Settled.{Told, ComesWhere, IsComplete, IsCutShort, IsSettled, IsWritten, IsRefused, IsTooLarge};
+ghost use Rattle.centre.specs.Table.{IsRun, Row, SelectRow, ShowRow, stream, world};
 
 use crate::MAX_INPUT;
-use crate::ending::{Refusal, Stop, Word};
+use crate::commands::{CommandWords, Positions, command_in};
+use crate::ending::{Refusal, Stop};
+use crate::help::{HELP, VERSION};
 use crate::select::body_of;
 use crate::streams::{Sink, Source};
+use crate::telling::tell_stop;
 use crate::transfer::{put_all, read_input};
-use crate::words::read_query;
-use mseed_header::RecordFault;
-use std::alloc::{AllocError, Global};
+use crate::words::select_query;
+use std::alloc::Global;
 
-const MEMORY_TEXT: &str = "centre: out of memory\n";
-
-// The command `select`: words, query, input, records, answer, output.
+// The command `select`: query, input, records, answer, output.
 fn select<S: Source, K: Sink>(
     alloc: Global,
-    words: &[String],
+    positions: &Positions,
     source: &mut S,
     sink: &mut K,
 ) -> Result<(), Stop>
-    ensures row { SelectRow (map string_bytes words.now)
+    ensures row { SelectRow (words_at positions.now)
         (world (stream S.left S.faults source.old) (stream K.written K.faults sink.old))
         (world (stream S.left S.faults source.new) (stream K.written K.faults sink.new))
         result }
 {
-    let query = match read_query(alloc, words) {
+    let query = match select_query(alloc, positions) {
         Ok(query) => query,
         Err(stop) => return Err(stop),
     };
@@ -46,106 +48,37 @@ fn select<S: Source, K: Sink>(
     }
 }
 
-// How a word is named to users.
-fn name_of(word: Word) -> &'static str
-    ensures { result.now ≡ name_of_word word }
+// A command that shows a text, by the same path as data.
+fn show<S: Source, K: Sink>(text: &str, source: &S, sink: &mut K) -> Result<(), Stop>
+    ensures row { ShowRow text.now
+        (world (stream S.left S.faults source.now) (stream K.written K.faults sink.old))
+        (world (stream S.left S.faults source.now) (stream K.written K.faults sink.new))
+        result }
 {
-    match word {
-        Word::Network => "NET",
-        Word::Station => "STA",
-        Word::Location => "LOC",
-        Word::Channel => "CHA",
-        Word::Start => "START",
-        Word::End => "END",
+    match put_all(sink, text.as_bytes()) {
+        Ok(()) => Ok(()),
+        Err(_) => Err(Stop::WriteFault),
     }
 }
 
-fn fault_name(fault: RecordFault) -> &'static str
-    ensures { result.now ≡ name_of_fault fault }
+// Does what the words ask for.
+fn obey<S: Source, K: Sink>(
+    alloc: Global,
+    words: &[String],
+    source: &mut S,
+    sink: &mut K,
+) -> Result<(), Stop>
+    ensures row { Row (command_of (map string_bytes words.now))
+        (world (stream S.left S.faults source.old) (stream K.written K.faults sink.old))
+        (world (stream S.left S.faults source.new) (stream K.written K.faults sink.new))
+        result }
 {
-    match fault {
-        RecordFault::Short => "Short",
-        RecordFault::NotPlain => "NotPlain",
+    match command_in(words) {
+        None => Err(Stop::Refused(Refusal::UnknownCommand)),
+        Some(CommandWords::Help) => show(HELP, source, sink),
+        Some(CommandWords::Version) => show(VERSION, source, sink),
+        Some(CommandWords::Select(positions)) => select(alloc, &positions, source, sink),
     }
-}
-
-fn value_text(alloc: Global, word: Word) -> Result<String, AllocError>
-    ensures { IfOk result (λ text. string_bytes text ≡ text_of_refusal (Refusal.Value word)) }
-{
-    let name = name_of(word);
-    format!(in alloc; "centre: query: Value {name}\n")
-}
-
-fn record_text(alloc: Global, at: usize, fault: RecordFault) -> Result<String, AllocError>
-    ensures { IfOk result (λ text. string_bytes text ≡ text_of_refusal (Refusal.Record at fault)) }
-{
-    let mut text = format!(in alloc; "centre: record at offset {at}: ")?;
-    text.push_str(fault_name(fault))?;
-    text.push_str("\n")?;
-    Ok(text)
-}
-
-fn size_text(alloc: Global, bytes: u64, limit: u64) -> Result<String, AllocError>
-    ensures { IfOk result (λ text. string_bytes text ≡ text_of_refusal (Refusal.TooLarge bytes limit)) }
-{
-    let mut text = format!(in alloc; "centre: {bytes} bytes exceed ")?;
-    let most = format!(in alloc; "{limit}")?;
-    text.push_str(most.as_str())?;
-    text.push_str("\n")?;
-    Ok(text)
-}
-
-// The text of a refusal.
-fn refusal_text(alloc: Global, refusal: Refusal) -> Result<String, AllocError>
-    ensures { IfOk result (λ text. string_bytes text ≡ text_of_refusal refusal) }
-{
-    match refusal {
-        Refusal::UnknownCommand => String::from_str(alloc, "centre: unknown command line\n"),
-        Refusal::Value(word) => value_text(alloc, word),
-        Refusal::Order => String::from_str(alloc, "centre: query: Order\n"),
-        Refusal::Record { at, fault } => record_text(alloc, at, fault),
-        Refusal::NoData => String::from_str(alloc, "centre: no data\n"),
-        Refusal::TooLarge { bytes, limit } => size_text(alloc, bytes, limit),
-        Refusal::InputTooLong => String::from_str(alloc, "centre: input too long\n"),
-    }
-}
-
-// Writes a text, as far as the errors take it.
-fn tell<E: Sink>(errors: &mut E, text: &str)
-    ensures { Tells (stream E.written E.faults errors.old) (stream E.written E.faults errors.new) text.now }
-{
-    let _ = put_all(errors, text.as_bytes());
-}
-
-// Tells why a run stopped. A text for which memory doesn't suffice becomes that of want of memory.
-fn tell_stop<E: Sink>(alloc: Global, errors: &mut E, stop: Stop) -> Stop
-    ensures same { ToldFor stop result }
-    ensures text { Tells (stream E.written E.faults errors.old) (stream E.written E.faults errors.new)
-        (text_of result) }
-{
-    match stop {
-        Stop::Refused(refusal) => {
-            let Ok(text) = refusal_text(alloc, refusal) else {
-                tell(errors, MEMORY_TEXT);
-                return Stop::OutOfMemory;
-            };
-            tell(errors, text.as_str());
-        }
-        Stop::ReadFault => tell(errors, "centre: read fault\n"),
-        Stop::WriteFault => tell(errors, "centre: write fault\n"),
-        Stop::OutOfMemory => tell(errors, MEMORY_TEXT),
-    }
-    stop
-}
-
-/// Tells that memory ran out, and answers the exit status for it.
-pub fn out_of_memory<E: Sink>(errors: &mut E) -> u8
-    ensures status { result ≡ 70 }
-    ensures text { Tells (stream E.written E.faults errors.old) (stream E.written E.faults errors.new)
-        (text_of Stop.OutOfMemory) }
-{
-    tell(errors, MEMORY_TEXT);
-    Stop::OutOfMemory.status()
 }
 
 /// Does what the words ask for, and answers the exit status. `words` are those after the program's
@@ -170,22 +103,44 @@ pub fn run<R, S: Source, K: Sink, E: Sink>(
     errors: &mut E,
 ) -> u8
     // One row of the table holds, and the errors got its text.
-    ensures table { IsRun (map string_bytes words.now)
+    ensures table { IsRun (command_of (map string_bytes words.now))
         (world (stream S.left S.faults source.old) (stream K.written K.faults sink.old))
         (world (stream S.left S.faults source.new) (stream K.written K.faults sink.new))
         (stream E.written E.faults errors.old) (stream E.written E.faults errors.new)
         result }
 
-    // The rows that a reader looks for. With status 0 the sink got the data body of the input's rows for
-    // the query of the words.
-    ensures written { result ≡ 0 → IsSelected (map string_bytes words.now)
+    // The other way round: what the words and the input determine is what comes, with its text, unless
+    // the source or the sink failed or memory ran out.
+    ensures settled { Told (S.left source.old) (λ input. IsSettled (command_of (map string_bytes words.now)) input
+        (stream E.written E.faults errors.old) (stream E.written E.faults errors.new) result) }
+
+    ensures complete { Told (S.left source.old) (λ input. IsComplete (command_of (map string_bytes words.now)) input
+        (world (stream S.left S.faults source.old) (stream K.written K.faults sink.old))
+        (world (stream S.left S.faults source.new) (stream K.written K.faults sink.new))
+        (stream E.written E.faults errors.old) (stream E.written E.faults errors.new) result) }
+
+    // With every status but 0 and 6 the sink is as before.
+    ensures kept { result ≢ 0 → result ≢ 6 → stream K.written K.faults sink.new ≡ stream K.written K.faults sink.old }
+
+    // The rows that a reader looks for.
+    ensures written { result ≡ 0 → IsWritten (command_of (map string_bytes words.now))
         (world (stream S.left S.faults source.old) (stream K.written K.faults sink.old))
         (world (stream S.left S.faults source.new) (stream K.written K.faults sink.new)) }
-    ensures unknown { result ≡ 1 → RefusesCommand (map string_bytes words.now) Refusal.UnknownCommand }
+    ensures unknown { (result ≡ 1) ↔ (command_of (map string_bytes words.now) ≡ None) }
+    ensures refused { Told (S.left source.old)
+        (λ input. ComesWhere result 2 (IsRefused (command_of (map string_bytes words.now)) input)) }
+    ensures no_data { Told (S.left source.old)
+        (λ input. ComesWhere result 3 (IsAnswer (command_of (map string_bytes words.now)) input (Err Refusal.NoData))) }
+    ensures too_large { Told (S.left source.old)
+        (λ input. ComesWhere result 4 (IsTooLarge (command_of (map string_bytes words.now)) input)) }
     ensures read_fault { result ≡ 5 → Rose (S.faults source.old) (S.faults source.new) }
-    ensures write_fault { result ≡ 6 → Rose (K.faults sink.old) (K.faults sink.new) }
+    ensures write_fault { result ≡ 6 → IsCutShort (command_of (map string_bytes words.now))
+        (world (stream S.left S.faults source.old) (stream K.written K.faults sink.old))
+        (world (stream S.left S.faults source.new) (stream K.written K.faults sink.new)) }
+    ensures too_long { Told (S.left source.old)
+        (λ input. ComesWhere result 10 (IsAnswer (command_of (map string_bytes words.now)) input (Err Refusal.InputTooLong))) }
 {
-    match select(alloc, words, source, sink) {
+    match obey(alloc, words, source, sink) {
         Ok(()) => 0,
         Err(stop) => tell_stop(alloc, errors, stop).status(),
     }

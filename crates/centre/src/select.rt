@@ -2,6 +2,7 @@
 ghost use Rattle.std.specs.Prelude.{◌≡◌, ◌≤◌, ◌<◌, ◌^◌, false, [], length, IfOk, IfErr, OnOk};
 ghost use Rattle.mseed_header.specs.Records.{AreRecords};
 ghost use Rattle.dataselect.specs.Rows.{held_rows};
+ghost use Rattle.centre.specs.declared.TheConstants.{MAX_INPUT};
 ghost use Rattle.centre.specs.Answers.{IsBodyOf, RefusesInput, RefusesRecords, epoch, stop_for_data};
 ghost use Rattle.centre.specs.Words.{StopsWith};
 
@@ -39,7 +40,7 @@ fn shelve<S: Shelf>(shelf: &mut S, rows: Many<Row>) -> Result<(), OutOfMemory>
 
 /// The data body of a query over an input of plain records end to end.
 pub fn body_of(alloc: Global, query: &DataQuery, input: &[u8]) -> Result<Bytes, Stop>
-    requires few { length input.now < 2 ^ 32 }
+    requires within { length input.now ≤ MAX_INPUT }
     requires minimum { query.now.minimum ≡ 0 }
     requires longest { query.now.longest ≡ false }
     ensures ok { IfOk result (λ body. IsBodyOf query.now input.now body) }

@@ -1,5 +1,6 @@
 //! Tests over records, which the crates below share.
 mod headers;
+mod long;
 mod records;
 mod runs;
 mod shelves;

@@ -1,72 +1,16 @@
 //! The query that the words of `select` spell.
-ghost use Rattle.std.specs.Prelude.{◌≡◌, ◌↔◌, ◌≤ℤ◌, map, string_bytes, codes, IsTrue, IfOk, IfErr};
-ghost use Rattle.std.specs.List.{list_all};
-ghost use Rattle.std.specs.Option.{option_map};
+ghost use Rattle.std.specs.Prelude.{◌≡◌, ◌≤ℤ◌, IfOk, IfErr};
 ghost use Rattle.exact_time.specs.MomentText.{IsMoment};
 ghost use Rattle.channel_globs.specs.PatternText.{IsPatternList};
 ghost use Rattle.centre.specs.Positions.{words_at};
-ghost use Rattle.centre.specs.Words.{is_position, select_words_of, stop_for, AreLists, IsList, IsTime, IsNamed, IsSimple, IsSelectQuery, IsQueryOf, RefusesWords, RefusesCommand, StopsWith};
+ghost use Rattle.centre.specs.Words.{stop_for, AreLists, IsList, IsTime, IsNamed, IsSimple, IsSelectQuery, RefusesWords, StopsWith};
 
+use crate::commands::Positions;
 use crate::ending::{Refusal, Stop, Word};
 use channel_globs::{GlobFault, Part, PatternList};
 use dataselect::{DataQuery, Nodata, Selection};
 use exact_time::{Many, Moment};
 use std::alloc::Global;
-
-/// The words of `select` behind its name.
-#[derive(Clone, Copy)]
-pub struct Positions<'a> {
-    pub network: &'a str,
-    pub station: &'a str,
-    pub location: &'a str,
-    pub channel: &'a str,
-    pub start: &'a str,
-    pub end: &'a str,
-}
-
-// A word that begins with a hyphen is no position.
-fn is_position(word: &String) -> bool
-    ensures { result ≡ is_position (string_bytes word.now) }
-{
-    match word.as_bytes() {
-        [b'-', ..] => false,
-        _ => true,
-    }
-}
-
-// Whether the word names the command.
-fn is_select(command: &str) -> bool
-    ensures { IsTrue result ↔ (command.now ≡ codes "select") }
-{
-    command == "select"
-}
-
-// Whether each word may be a position.
-fn are_positions(words: &[String]) -> bool
-    ensures { result ≡ list_all (λ word. is_position (string_bytes word)) words.now }
-{
-    words.iter().all(|word| is_position(word))
-}
-
-// The positions, where the words are `select` and six of them.
-fn positions_in(words: &[String]) -> Option<Positions<'_>>
-    ensures { option_map words_at result ≡ select_words_of (map string_bytes words.entry.now) }
-{
-    let [command, network, station, location, channel, start, end] = words else {
-        return None;
-    };
-    if !is_select(command.as_str()) || !are_positions(&words[1..]) {
-        return None;
-    }
-    Some(Positions {
-        network: network.as_str(),
-        station: station.as_str(),
-        location: location.as_str(),
-        channel: channel.as_str(),
-        start: start.as_str(),
-        end: end.as_str(),
-    })
-}
 
 // How a fault of a code word stops the run.
 fn stop_for(fault: GlobFault, word: Word) -> Stop
@@ -157,8 +101,8 @@ fn query_of(alloc: Global, selection: Selection) -> Result<DataQuery, Stop>
     })
 }
 
-// The query of the six positions.
-fn select_query(alloc: Global, positions: &Positions) -> Result<DataQuery, Stop>
+/// The query of the six positions, or why they spell none.
+pub fn select_query(alloc: Global, positions: &Positions) -> Result<DataQuery, Stop>
     ensures ok { IfOk result (λ query. IsSelectQuery (words_at positions.now) query) }
     ensures err { IfErr result (StopsWith (RefusesWords (words_at positions.now))) }
 {
@@ -185,15 +129,4 @@ fn select_query(alloc: Global, positions: &Positions) -> Result<DataQuery, Stop>
             end: Some(to),
         },
     )
-}
-
-/// The query that the words spell, or why they spell none.
-pub fn read_query(alloc: Global, words: &[String]) -> Result<DataQuery, Stop>
-    ensures ok { IfOk result (λ query. IsQueryOf (map string_bytes words.now) query) }
-    ensures err { IfErr result (StopsWith (RefusesCommand (map string_bytes words.now))) }
-{
-    let Some(positions) = positions_in(words) else {
-        return Err(Stop::Refused(Refusal::UnknownCommand));
-    };
-    select_query(alloc, &positions)
 }

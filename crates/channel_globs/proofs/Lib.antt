@@ -1,4 +1,5 @@
 pub mod Decides
 pub mod Examples
 pub mod MatchingSteps
+pub mod OneList
 pub mod PatternTexts

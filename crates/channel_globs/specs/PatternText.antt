@@ -60,12 +60,19 @@ pub record IsPatternList (part : Part) (text : List ℕ) (patterns : List (List 
   pub few : length (words_of text) ≤ 64
   pub each : map (item_of part) (words_of text) ≡ map Ok patterns
 
--- there are too many items, or else the first faulty one has this fault; want of memory is free
+-- there are too many items, or else the first faulty one has this fault
+abbrev pub IsListFault : Part → List ℕ → GlobFault → Type 0
+IsListFault part text TooMany = 64 < length (words_of text)
+IsListFault part text Character = (length (words_of text) ≤ 64) × IsFirstFault (item_of part) (words_of text) Character
+IsListFault part text Length = (length (words_of text) ≤ 64) × IsFirstFault (item_of part) (words_of text) Length
+IsListFault part text OutOfMemory = ⊥
+
+-- why no list was read; want of memory is free
 abbrev pub RefusesList : Part → List ℕ → GlobFault → Type 0
-RefusesList part text TooMany = 64 < length (words_of text)
-RefusesList part text Character = (length (words_of text) ≤ 64) × IsFirstFault (item_of part) (words_of text) Character
-RefusesList part text Length = (length (words_of text) ≤ 64) × IsFirstFault (item_of part) (words_of text) Length
 RefusesList part text OutOfMemory = ⊤
+RefusesList part text TooMany = IsListFault part text TooMany
+RefusesList part text Character = IsListFault part text Character
+RefusesList part text Length = IsListFault part text Length
 
 -- the faults of one item
 abbrev pub RefusesItem : Part → List ℕ → GlobFault → Type 0

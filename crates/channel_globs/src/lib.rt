@@ -10,6 +10,7 @@
 #![tactic(auto)]
 
 mod code;
+mod law;
 mod matching;
 mod nslc;
 mod patterns;
@@ -18,6 +19,7 @@ mod reading;
 mod tests;
 
 pub use code::Code;
+pub use law::a_text_is_one_list_or_one_fault;
 pub use nslc::{Nslc, Part};
 pub use patterns::{GlobFault, PatternList};
 pub use reading::is_blank_location;

@@ -1,6 +1,7 @@
-ghost use Rattle.std.specs.Prelude.{◌≡◌, ◌↔◌, List, ℕ, [], ◌∷◌, IsTrue, Any, IfOk, IfErr};
+ghost use Rattle.std.specs.Prelude.{◌≡◌, ◌↔◌, ◌⊎◌, List, ℕ, [], ◌∷◌, IsTrue, Any, IfOk, IfErr, IsErrOf};
+ghost use Rattle.list_laws.specs.Only.{IsOnly};
 ghost use Rattle.channel_globs.specs.Matching.{Matches, is_match_any, star};
-ghost use Rattle.channel_globs.specs.PatternText.{IsPatternList, RefusesList};
+ghost use Rattle.channel_globs.specs.PatternText.{IsPatternList, IsListFault, RefusesList};
 
 use crate::matching::matches;
 use crate::reading::{comma_count, pieces, read_item, trimmed};
@@ -68,6 +69,22 @@ fn some_matches(patterns: &[Code], code: &Code) -> bool
         .any(|pattern| matches(pattern.as_slice(), code.as_slice()))
 }
 
+// The patterns of a list.
+fn items_in(alloc: Global, text: &[u8], part: Part) -> Result<Vec<Code>, GlobFault>
+    ensures list { IfOk result (λ list. IsPatternList part text.now list.items) }
+    ensures refused { IfErr result (RefusesList part text.now) }
+{
+    if comma_count(text) >= MOST_ITEMS {
+        return Err(GlobFault::TooMany);
+    }
+    let pieces = pieces(alloc, text)?;
+    let mut items = Vec::new(alloc);
+    'items: for piece in &pieces {
+        items.push(read_item(part, trimmed(piece))?)?;
+    }
+    Ok(items)
+}
+
 /// Patterns of one to eight bytes, of which one has to match: `*` is any run of characters, `?` one
 /// character, and a letter or digit itself.
 #[derive(Debug, Drop)]
@@ -89,16 +106,13 @@ impl PatternList {
     pub fn read(alloc: Global, text: &[u8], part: Part) -> Result<PatternList, GlobFault>
         ensures list { IfOk result (λ list. IsPatternList part text.now list) }
         ensures refused { IfErr result (RefusesList part text.now) }
+        ensures exact { IsErrOf result GlobFault.OutOfMemory
+            ⊎ IsOnly (IsPatternList part text.now) (IsListFault part text.now) result }
     {
-        if comma_count(text) >= MOST_ITEMS {
-            return Err(GlobFault::TooMany);
+        match items_in(alloc, text, part) {
+            Ok(items) => Ok(PatternList { items }),
+            Err(fault) => Err(fault),
         }
-        let pieces = pieces(alloc, text)?;
-        let mut items = Vec::new(alloc);
-        'items: for piece in &pieces {
-            items.push(read_item(part, trimmed(piece))?)?;
-        }
-        Ok(PatternList { items })
     }
 
     /// Whether some pattern matches the code. Takes no memory.

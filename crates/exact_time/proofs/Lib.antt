@@ -1,4 +1,5 @@
 pub mod Calendar
 pub mod Examples
 pub mod Lowest
+pub mod Rates
 pub mod Spellings

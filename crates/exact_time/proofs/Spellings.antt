@@ -1,7 +1,12 @@
--- A text has the numbers of one time at most.
-use Rattle.std.proofs.Common.{◌≡◌, ℕ, ◌+◌, ◌/◌, ◌%◌, ◌<◌, List, [], ◌∷◌, take, drop, get_or, arith, ap, sym, ◌∙◌, subst}
+-- A text has the numbers of one time at most, so it names one moment or has one fault.
+use Rattle.std.proofs.Common.{◌≡◌, ℕ, ℤ, ◌+◌, ◌/◌, ◌%◌, ◌<◌, List, [], ◌∷◌, take, drop, get_or, arith, ap, sym, refl, ◌∙◌, subst, Result, MatchResult}
+use Rattle.list_laws.specs.Only.{IsOnly}
+use Rattle.list_laws.proofs.Answers.{only_from}
+use Rattle.exact_time.specs.declared.moment.Moment.{Moment}
+use Rattle.exact_time.specs.declared.moment.TimeFault.{TimeFault}
+use Rattle.exact_time.specs.declared.moment.TimeFault.TheVariants.{Form, Range}
 use Rattle.exact_time.specs.declared.reading.CivilTime.{CivilTime}
-use Rattle.exact_time.specs.MomentText.{IsDateText, IsClockText, IsSixDigits, IsDecimals, IsTimeOfDay, IsMomentText, IsCivil, IsMomentDate, date_text, clock_text, six_digits, without_zulu}
+use Rattle.exact_time.specs.MomentText.{IsDateText, IsClockText, IsSixDigits, IsDecimals, IsTimeOfDay, IsMomentText, IsCivil, IsMoment, RefusesMoment, civil_micros, date_text, clock_text, six_digits, without_zulu}
 
 -- two digits are those of one number below 100
 same_two : (n m : ℕ) → n < 100 → m < 100 → 48 + n / 10 ≡ 48 + m / 10 → 48 + n % 10 ≡ 48 + m % 10 → n ≡ m
@@ -40,14 +45,35 @@ one_time (c ∷ text) h m s n h' m' s' n' a b =
     let p = one_clock (take 8 text) h m s h' m' s' a.1 b.1 in
     (p.0, p.1, p.2, one_decimals (without_zulu (drop 8 text)) n n' a.2 b.2)
 
--- where one reading of a text is a time, each is
-pub civil_once : (text : List ℕ) (t u : CivilTime) → IsMomentText text t → IsMomentText text u → IsCivil t → IsCivil u
-civil_once text t u h k civil =
+one_civil : (text : List ℕ) (t u : CivilTime) → IsMomentText text t → IsMomentText text u → t ≡ u
+one_civil text t u h k =
     let p = one_date (take 10 text) t.year t.month t.day u.year u.month u.day h.date k.date in
     let q = one_time (drop 10 text) t.hour t.minute t.second t.micros u.hour u.minute u.second u.micros h.time k.time in
-    record {
-      date = (let P : ℕ → ℕ → ℕ → Type 0 = λ y m d. IsMomentDate y m d in subst (λ (y : ℕ). P y u.month u.day) p.0 (subst (λ (m : ℕ). P t.year m u.day) p.1 (subst (λ (d : ℕ). P t.year t.month d) p.2 civil.date)));
-      hour = omega (arith, q.0, civil.hour);
-      minute = omega (arith, q.1, civil.minute);
-      second = omega (arith, q.2, civil.second);
-    }
+    λ i. record { year = p.0 i; month = p.1 i; day = p.2 i; hour = q.0 i; minute = q.1 i; second = q.2 i; micros = q.3 i }
+
+-- where one reading of a text is a time, each is
+pub civil_once : (text : List ℕ) (t u : CivilTime) → IsMomentText text t → IsMomentText text u → IsCivil t → IsCivil u
+civil_once text t u h k civil = subst (λ (v : CivilTime). IsCivil v) (one_civil text t u h k) civil
+
+-- a text names one moment
+pub one_moment : (text : List ℕ) (a b : ℤ) → IsMoment text a → IsMoment text b → a ≡ b
+one_moment text a b h k = h.3 ∙ ap civil_micros (one_civil text h.0 k.0 h.1 k.1) ∙ sym k.3
+
+same_moment : (text : List ℕ) (a b : Moment) → IsMoment text a.micros → IsMoment text b.micros → a ≡ b
+same_moment text a b h k = let e = one_moment text a.micros b.micros h k in λ i. record { micros = e i }
+
+one_refusal : (text : List ℕ) (f g : TimeFault) → RefusesMoment text f → RefusesMoment text g → f ≡ g
+one_refusal text Form Form h k = refl
+one_refusal text Form Range h k = absurd (h k.0 k.1)
+one_refusal text Range Form h k = absurd (k h.0 h.1)
+one_refusal text Range Range h k = refl
+
+-- and is not refused
+pub no_moment : (text : List ℕ) (micros : ℤ) (f : TimeFault) → IsMoment text micros → RefusesMoment text f → ⊥
+no_moment text micros Form h k = k h.0 h.1
+no_moment text micros Range h k = k.2 (civil_once text h.0 k.0 h.1 k.1 h.2)
+
+pub only_moment : (text : List ℕ) (answer : Result Moment TimeFault) → MatchResult answer (λ m. IsMoment text m.micros) (RefusesMoment text)
+    → IsOnly (λ (m : Moment). IsMoment text m.micros) (RefusesMoment text) answer
+only_moment text answer right =
+    only_from (λ (m : Moment). IsMoment text m.micros) (RefusesMoment text) (same_moment text) (one_refusal text) (λ m f h k. no_moment text m.micros f h k) answer right

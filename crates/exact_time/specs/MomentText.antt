@@ -4,6 +4,8 @@ use Rattle.std.specs.Prelude.{◌≡◌, ℕ, ◌+◌, ◌-◌, ◌/◌, ◌%◌
 use Rattle.std.specs.Int.{IsInRange}
 use Rattle.jiff_core.specs.Calendar.{days_in_month, days_from_civil}
 use Rattle.exact_time.specs.BTime.{clock_micros}
+use Rattle.exact_time.specs.declared.moment.TimeFault.{TimeFault}
+use Rattle.exact_time.specs.declared.moment.TimeFault.TheVariants.{Form, Range}
 use Rattle.exact_time.specs.declared.reading.CivilTime.{CivilTime}
 
 -- the characters of the two forms
@@ -114,3 +116,8 @@ civil_micros t = date_micros t.year t.month t.day +ℤ pos (clock_micros t.hour 
 -- the text names the moment of so many microseconds
 abbrev pub IsMoment : List ℕ → ℤ → Type 0
 IsMoment text micros = (t : CivilTime) × IsMomentText text t × IsCivil t × (micros ≡ civil_micros t)
+
+-- why a text names no moment: it is of neither form, or there is no such day or time of day
+abbrev pub RefusesMoment : List ℕ → TimeFault → Type 0
+RefusesMoment text Form = (t : CivilTime) → ¬ (IsMomentText text t)
+RefusesMoment text Range = (t : CivilTime) × IsMomentText text t × (¬ (IsCivil t))

@@ -30,15 +30,16 @@ impl Error for TimeFault {}
 
 impl Moment {
     ghost use Rattle.std.specs.Prelude.{◌≡◌, ◌↔◌, IfOk, IsErrOf};
-    ghost use Rattle.exact_time.specs.MomentText.{IsMoment, IsMomentText, IsCivil};
-    ghost use Rattle.exact_time.specs.declared.reading.CivilTime.{CivilTime};
+    ghost use Rattle.list_laws.specs.Only.{IsOnly};
+    ghost use Rattle.exact_time.specs.MomentText.{IsMoment, RefusesMoment};
 
     /// The moment that a text names: `YYYY-MM-DD`, or `YYYY-MM-DDThh:mm:ss` with an optional point
     /// and 1 to 6 decimals and an optional final `Z`, of the years 1900 to 2599.
     pub fn read(text: &[u8]) -> Result<Moment, TimeFault>
         ensures value { IfOk result (λ m. IsMoment text.now m.micros) }
-        ensures form { IsErrOf result TimeFault.Form ↔ ((t : CivilTime) → ¬ (IsMomentText text.now t)) }
-        ensures range { IsErrOf result TimeFault.Range ↔ ((t : CivilTime) × IsMomentText text.now t × (¬ (IsCivil t))) }
+        ensures form { IsErrOf result TimeFault.Form ↔ RefusesMoment text.now TimeFault.Form }
+        ensures range { IsErrOf result TimeFault.Range ↔ RefusesMoment text.now TimeFault.Range }
+        ensures exact { IsOnly (λ m. IsMoment text.now m.micros) (RefusesMoment text.now) result }
     {
         let Some(time) = civil_time_in(text) else {
             return Err(TimeFault::Form);

@@ -1,7 +1,8 @@
 -- Worked examples of the definitions.
-use Rattle.std.proofs.Common.{◌≡◌, ℕ, ◌+◌, ◌/◌, ◌%◌, ◌==◌, [], ◌∷◌, Result, Ok, Err, refl, if◌then◌else◌, nat_cmp}
+use Rattle.std.proofs.Common.{◌≡◌, ℕ, suc, ◌<◌, ◌+◌, ◌*◌, ◌/◌, ◌%◌, ◌==◌, [], ◌∷◌, Result, Ok, Err, MatchResult, refl, ap, arith, if◌then◌else◌, nat_cmp}
 use Rattle.list_laws.specs.InOrder.{in_order}
-use Rattle.list_laws.specs.Faults.{IsFirstFault}
+use Rattle.list_laws.specs.Faults.{IsFirstFault, IsFirstWithout}
+use Rattle.list_laws.specs.Only.{IsOnly}
 use Rattle.list_laws.specs.Runs.{run_from, IsFirstRefused}
 
 -- each key once
@@ -31,3 +32,14 @@ half n = if n % 2 == 0 then Ok (n / 2) else Err n
 first_odd : IsFirstFault half (2 ∷ 4 ∷ 3 ∷ 5 ∷ []) 3
 unfolding half
 first_odd = record { before = 2 ∷ 4 ∷ []; here = 3; after = 5 ∷ []; split = refl; values = 1 ∷ 2 ∷ []; clean = refl; refused = refl }
+
+-- three is the one half of six, and six has no fault
+is_half : (answer : Result ℕ ℕ) → MatchResult answer (λ half. 2 * half ≡ 6) (λ left. suc (2 * left) ≡ 6) → answer ≡ Ok 3
+is_half (Ok half) h = let same : half ≡ 3 = omega (arith, h) in ap Ok same
+is_half (Err left) h = absurd (omega (arith, h))
+
+only_half : IsOnly (λ (half : ℕ). 2 * half ≡ 6) (λ (left : ℕ). suc (2 * left) ≡ 6) (Ok 3)
+only_half = record { right = refl; only = is_half }
+
+first_large : IsFirstWithout (λ n. n < 5) (2 ∷ 7 ∷ 9 ∷ []) 7
+first_large = record { before = 2 ∷ []; after = 9 ∷ []; split = refl; all = (omega arith, tt); lacks = λ h. absurd (omega (arith, h)) }

@@ -1,3 +1,4 @@
 pub mod Faults
 pub mod InOrder
+pub mod Only
 pub mod Runs

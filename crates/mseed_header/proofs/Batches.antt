@@ -1,11 +1,11 @@
 -- One record more of a batch, and the first that is refused.
-use Rattle.std.proofs.Common.{◌≡◌, ◌≢◌, ◌==◌, false, ℕ, ◌+◌, ◌-◌, ◌≤◌, ◌^◌, List, [], ◌∷◌, ◌++◌, length, take, drop, get_or, Some, Err, refl, sym, ap, ◌∙◌, arith, subst, append_assoc, length-append, append-nil, inl, inr}
+use Rattle.std.proofs.Common.{◌≡◌, ◌≢◌, ◌==◌, true, false, ℕ, ◌+◌, ◌-◌, ◌≤◌, ◌^◌, List, [], ◌∷◌, ◌++◌, length, take, drop, get_or, Some, Err, refl, sym, ap, ◌∙◌, arith, subst, append_assoc, length-append, append-nil, inl, inr}
 use Rattle.std.specs.Prelude.{◌↔◌, IsErrOf}
 use Rattle.std.specs.List.{slice_get}
 use Rattle.std.proofs.Math.Seq.{drop-append_seam}
 use Rattle.std.proofs.Math.Nat.{pow-le-pow_right}
 use Rattle.std.proofs.lemmas.List.{take-take}
-use Rattle.std.proofs.lemmas.Bool.{cases_lt}
+use Rattle.std.proofs.lemmas.Bool.{cases_lt, eqb-true}
 use Rattle.std.proofs.lemmas.Option.{slice_get_within}
 use Rattle.std.proofs.lemmas.Grind.{flat_map-append}
 use Rattle.list_laws.proofs.Places.{get_before, get_last}
@@ -79,6 +79,11 @@ placed_more entry moment rows row all here i r e =
 pub some_left : (xs : List ℕ) → (length xs == 0) ≡ false → xs ≢ []
 some_left [] h e = cc
 some_left (x ∷ xs) h e = cc
+
+-- the rows are all of the bytes where none is left
+pub none_left : (bytes rest : List ℕ) (rows : List Row) → bytes ≡ images_of rows ++ rest → (length rest == 0) ≡ true → bytes ≡ images_of rows
+none_left bytes [] rows split h = split ∙ append-nil (images_of rows)
+none_left bytes (x ∷ rest) rows split h = let none = eqb-true (length (x ∷ rest)) 0 h in absurd (omega arith)
 
 -- no more rows than bytes
 pub rows_fit : (rows : List Row) → length rows ≤ length (images_of rows)

@@ -10,10 +10,10 @@ use Rattle.exact_time.specs.declared.moment.Moment.{Moment}
 use Rattle.mseed_header.proofs.Batches.{some_left}
 use Rattle.mseed_header.specs.CodeField.{IsCodeField, IsLocationField, without_fill, location_of}
 use Rattle.mseed_header.specs.Fields.{number_at, u16_at, i16_at, bytes_at, time_at}
-use Rattle.mseed_header.specs.Header.{IsLoneChain, IsPlainHead, IsPlainRecord, RefusesRecord}
-use Rattle.mseed_header.specs.Records.{AreRecords, IsPlaced, RefusesBatch}
+use Rattle.mseed_header.specs.Header.{IsLoneChain, IsPlainHead, IsPlainRecord, HasHeader, RefusesRecord}
+use Rattle.mseed_header.specs.Records.{AreRecords, IsPlaced, RefusesBatch, IsBatchFault}
 use Rattle.mseed_header.specs.Times.{last_index, next_index}
-use Rattle.mseed_header.specs.declared.cut.CutFault.TheVariants.{Bad}
+use Rattle.mseed_header.specs.declared.cut.CutFault.TheVariants.{Bad, OutOfMemory}
 use Rattle.mseed_header.specs.declared.header.Header.{Header}
 use Rattle.mseed_header.specs.declared.header.RecordFault.TheVariants.{Short}
 use Rattle.mseed_header.specs.declared.quality.Quality.TheVariants.{D}
@@ -104,13 +104,21 @@ header = record {
   chain = length_512;
 }
 
--- the whole record, and its row
+-- the whole record
 abbrev pub anmo_image : List ℕ
 anmo_image = anmo_head ++ replicate 456 0
 
 pub anmo_record : IsPlainRecord anmo_image anmo_header
 anmo_record = record { head = header; whole = refl }
 
+-- the record's bytes have its header, and so have those bytes with more behind them
+pub found : HasHeader anmo_image anmo_header
+found = record { head = header; whole = omega arith }
+
+found_in_front : HasHeader (anmo_image ++ codes "000002") anmo_header
+found_in_front = record { head = header; whole = omega arith }
+
+-- its row
 abbrev pub anmo_row : Row
 anmo_row = record {
   header = anmo_header;
@@ -144,3 +152,10 @@ short = inl (omega arith)
 
 pub second : RefusesBatch (anmo_image ++ codes "000002") (Bad 512 Short)
 second = record { before = anmo_row ∷ []; split = refl; offset = refl; some = some_left (codes "000002") refl; refused = short }
+
+-- that is the fault of those bytes, and want of memory is no fault of any
+pub second_fault : IsBatchFault (anmo_image ++ codes "000002") (Bad 512 Short)
+second_fault = second
+
+memory_is_no_fault : (bytes : List ℕ) → IsBatchFault bytes OutOfMemory → ⊥
+memory_is_no_fault bytes h = h

@@ -1,3 +1,5 @@
 pub mod Batches
 pub mod CodeFields
 pub mod Examples
+pub mod Heads
+pub mod Rows

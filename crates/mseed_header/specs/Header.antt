@@ -56,6 +56,11 @@ pub record IsPlainRecord (image : List ℕ) (h : Header) : Type 0 where
   pub head : IsPlainHead (take 56 image) h
   pub whole : h.length ≡ length image
 
+-- the bytes begin with a whole plain record with this header
+pub record HasHeader (bytes : List ℕ) (h : Header) : Type 0 where
+  pub head : IsPlainHead (take 56 bytes) h
+  pub whole : h.length ≤ length bytes
+
 -- why bytes begin with no plain record: there are too few, or the head is another's
 abbrev pub RefusesRecord : List ℕ → RecordFault → Type 0
 RefusesRecord bytes Short =

@@ -35,3 +35,8 @@ pub record IsFirstBad (bytes : List ℕ) (at : ℕ) (fault : RecordFault) : Type
 abbrev pub RefusesBatch : List ℕ → CutFault → Type 0
 RefusesBatch bytes (Bad at fault) = IsFirstBad bytes at fault
 RefusesBatch bytes OutOfMemory = ⊤
+
+-- the fault of bytes that are no records end to end; want of memory is none
+abbrev pub IsBatchFault : List ℕ → CutFault → Type 0
+IsBatchFault bytes (Bad at fault) = IsFirstBad bytes at fault
+IsBatchFault bytes OutOfMemory = ⊥

@@ -1,6 +1,7 @@
-ghost use Rattle.std.specs.Prelude.{◌≡◌, ℕ, ℤ, pos, ◌≤ℤ◌, ◌<ℤ◌, ◌<◌, ◌^◌, length, IfOk, IfErr};
+ghost use Rattle.std.specs.Prelude.{◌≡◌, ℕ, ℤ, pos, ◌≤ℤ◌, ◌<ℤ◌, ◌<◌, ◌^◌, ◌⊎◌, length, Err, IfOk, IfErr};
+ghost use Rattle.list_laws.specs.Only.{IsOnly};
 ghost use Rattle.mseed_header.specs.Header.{IsPlainRecord};
-ghost use Rattle.mseed_header.specs.Records.{AreRecords, RefusesBatch};
+ghost use Rattle.mseed_header.specs.Records.{AreRecords, RefusesBatch, IsBatchFault};
 
 use crate::{Header, RecordFault, Row, read_header};
 use exact_time::{Bytes, Many, Moment, OutOfMemory};
@@ -77,6 +78,7 @@ pub fn cut_records(
     requires before_2600 { moment.micros <ℤ pos 19_880_899_200_000_000 }
     ensures rows { IfOk result (λ rows. AreRecords bytes.now entry moment rows) }
     ensures refused { IfErr result (RefusesBatch bytes.now) }
+    ensures exact { (result ≡ Err CutFault.OutOfMemory) ⊎ IsOnly (AreRecords bytes.now entry moment) (IsBatchFault bytes.now) result }
 {
     let mut rows = Many::new(alloc);
     let mut rest = bytes;

@@ -1,6 +1,7 @@
-ghost use Rattle.std.specs.Prelude.{◌≡◌, ℕ, ℤ, ◌<◌, ◌≤◌, ◌↔◌, false, length, take, slice_index, IfOk, IsErrOf, MatchOption};
+ghost use Rattle.std.specs.Prelude.{◌≡◌, ℕ, ℤ, ◌<◌, ◌≤◌, ◌↔◌, false, length, slice_index, IfOk, IsErrOf, MatchOption};
+ghost use Rattle.list_laws.specs.Only.{IsOnly};
 ghost use Rattle.mseed_header.specs.Fields.{time_at};
-ghost use Rattle.mseed_header.specs.Header.{IsPlainHead, IsStart, IsName, IsRate, IsLoneChain, RefusesRecord};
+ghost use Rattle.mseed_header.specs.Header.{IsPlainHead, IsStart, IsName, IsRate, IsLoneChain, HasHeader, RefusesRecord};
 ghost use Rattle.mseed_header.specs.declared.header.Header.{Header};
 ghost use Rattle.exact_time.specs.declared.ratio.Ratio.{Ratio};
 ghost use Rattle.channel_globs.specs.declared.nslc.Nslc.{Nslc};
@@ -113,9 +114,10 @@ fn plain_head(head: &[u8]) -> Option<Header>
 
 /// The header of the plain record that the bytes begin with. Bytes behind it are not read.
 pub fn read_header(bytes: &[u8]) -> Result<Header, RecordFault>
-    ensures ok { IfOk result (λ h. IsPlainHead (take 56 bytes.now) h × (h.length ≤ length bytes.now)) }
+    ensures ok { IfOk result (HasHeader bytes.now) }
     ensures short { IsErrOf result RecordFault.Short ↔ RefusesRecord bytes.now RecordFault.Short }
     ensures not_plain { IsErrOf result RecordFault.NotPlain ↔ RefusesRecord bytes.now RecordFault.NotPlain }
+    ensures exact { IsOnly (HasHeader bytes.now) (RefusesRecord bytes.now) result }
 {
     if bytes.len() < 56 {
         return Err(RecordFault::Short);

@@ -1,6 +1,6 @@
 //! Runs of `select` over objects in memory.
 use super::records::{anmo_record, anmo_record_at, little_endian_record, three_hertz_record};
-use crate::{MemorySink, MemorySource, run};
+use crate::{HELP, MemorySink, MemorySource, run};
 use exact_time::{Bytes, Many};
 use std::alloc::Global;
 use std::process::Abort;
@@ -201,6 +201,57 @@ fn refuses_words(rt: HostRuntime) -> Result<(), Fail> {
     Ok(())
 }
 
+// A word that can't be read is told before the order of the times.
+#[test]
+fn refuses_words_in_order(rt: HostRuntime) -> Result<(), Fail> {
+    let words = |start, end| ["select", "IU", "ANMO", "00", "BHZ", start, end];
+    check_words(
+        &rt,
+        &words("2024-02-02", "2024-02-0"),
+        2,
+        "centre: query: Value END\n",
+    )?;
+    check_words(
+        &rt,
+        &["select", "I-U", "", "00", "BHZ", "2024-02-02", "2024-02-01"],
+        2,
+        "centre: query: Value NET\n",
+    )?;
+    // A tab isn't removed round an item.
+    check_words(
+        &rt,
+        &["select", "IU", "ANMO\t", "00", "BHZ", "2024-02-01", "x"],
+        2,
+        "centre: query: Value STA\n",
+    )?;
+    check_words(
+        &rt,
+        &["select", "IU", "ANMO", "0-", "BHZ", "2024-02-01", "x"],
+        2,
+        "centre: query: Value LOC\n",
+    )
+}
+
+#[test]
+fn shows_texts(rt: HostRuntime) -> Result<(), Fail> {
+    check(&rt, &["--version"], b"", 0, b"centre 0.1.0\n", "")?;
+    check(&rt, &["--help"], &anmo_record(), 0, HELP.as_bytes(), "")?;
+    let unknown = "centre: unknown command line\n";
+    check_words(&rt, &["--help", "select"], 1, unknown)?;
+    check_words(&rt, &["-h"], 1, unknown)?;
+    check_words(&rt, &[], 1, unknown)?;
+    let first_write = Faults { source: 0, sink: 1 };
+    check_with(
+        &rt,
+        first_write,
+        &["--version"],
+        b"",
+        6,
+        b"",
+        "centre: write fault\n",
+    )
+}
+
 #[test]
 fn refuses_records_and_faults(rt: HostRuntime) -> Result<(), Fail> {
     let mut cut_off = Bytes::new(rt.alloc());
@@ -244,4 +295,56 @@ fn refuses_records_and_faults(rt: HostRuntime) -> Result<(), Fail> {
         "centre: write fault\n",
     )?;
     Ok(())
+}
+
+// Runs the usual query over the record, and compares the status and what the sink got.
+fn check_sinks(
+    rt: &(impl Abort + AllocGlobal),
+    mut sink: MemorySink,
+    mut errors: MemorySink,
+    record: &[u8],
+    status: u8,
+    output: &[u8],
+) -> Result<(), Fail> {
+    let alloc = rt.alloc();
+    let words = owned_words(alloc, &USUAL)?;
+    let mut source = MemorySource::new(pieces(alloc, record)?, Many::new(alloc));
+    let ended = run(rt, alloc, &words, &mut source, &mut sink, &mut errors);
+    assert_eq!(rt; ended, status);
+    assert_eq!(rt; sink.told().ok_or("lost")?, output);
+    Ok(())
+}
+
+#[test]
+fn writes_a_first_part(rt: HostRuntime) -> Result<(), Fail> {
+    let alloc = rt.alloc();
+    let record = anmo_record();
+    let part = record.get(..100).ok_or("short")?;
+    let errors = MemorySink::new(alloc, Many::new(alloc));
+    check_sinks(
+        &rt,
+        MemorySink::limited(alloc, 100),
+        errors,
+        &record,
+        6,
+        part,
+    )?;
+    // Room for just the answer is enough.
+    let errors = MemorySink::new(alloc, Many::new(alloc));
+    check_sinks(
+        &rt,
+        MemorySink::limited(alloc, 512),
+        errors,
+        &record,
+        0,
+        &record,
+    )
+}
+
+// A fault of the errors leaves the status.
+#[test]
+fn tells_as_far_as_it_can(rt: HostRuntime) -> Result<(), Fail> {
+    let alloc = rt.alloc();
+    let sink = MemorySink::new(alloc, Many::new(alloc));
+    check_sinks(&rt, sink, MemorySink::limited(alloc, 7), b"", 3, b"")
 }

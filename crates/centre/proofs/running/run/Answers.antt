@@ -1,5 +1,6 @@
 use Rattle.std.proofs.Common.{Ok, Err, refl}
 use Rattle.centre.proofs.Rows.{told_row, tells_nothing}
+use Rattle.centre.proofs.Settling.{settles, completes, kept, cut_short, read_rose, written, refused_comes, no_data_comes, too_large_comes, too_long_comes}
 use Rattle.centre.proofs.running.run.Goals as goal
 
 pub returns-in-Err-clause-table : goal.returns-in-Err-clause-table
@@ -10,5 +11,53 @@ returns-in-Err-clause-table g c = record {
   text = c.tell_stop.ensures.text;
 }
 
+pub returns-in-Err-clause-settled : goal.returns-in-Err-clause-settled
+returns-in-Err-clause-settled g c = settles _ _ _ _ _ _ (returns-in-Err-clause-table g c)
+
+pub returns-in-Err-clause-refused : goal.returns-in-Err-clause-refused
+returns-in-Err-clause-refused g c = refused_comes _ _ _ _ _ _ (returns-in-Err-clause-table g c)
+
+pub returns-in-Err-clause-no_data : goal.returns-in-Err-clause-no_data
+returns-in-Err-clause-no_data g c = no_data_comes _ _ _ _ _ _ (returns-in-Err-clause-table g c)
+
+pub returns-in-Err-clause-too_large : goal.returns-in-Err-clause-too_large
+returns-in-Err-clause-too_large g c = too_large_comes _ _ _ _ _ _ (returns-in-Err-clause-table g c)
+
+pub returns-in-Err-clause-too_long : goal.returns-in-Err-clause-too_long
+returns-in-Err-clause-too_long g c = too_long_comes _ _ _ _ _ _ (returns-in-Err-clause-table g c)
+
 pub returns-in-Ok-clause-table : goal.returns-in-Ok-clause-table
 returns-in-Ok-clause-table g c = record { ending = Ok tt; row = c.in-Ok.ensures.row; status_is = refl; text = tells_nothing _ }
+
+pub returns-in-Ok-clause-settled : goal.returns-in-Ok-clause-settled
+returns-in-Ok-clause-settled g c = settles _ _ _ _ _ _ (returns-in-Ok-clause-table g c)
+
+pub returns-in-Ok-clause-written : goal.returns-in-Ok-clause-written
+returns-in-Ok-clause-written g c = λ zero. written _ _ _ tt c.in-Ok.ensures.row
+
+pub returns-in-Ok-clause-refused : goal.returns-in-Ok-clause-refused
+returns-in-Ok-clause-refused g c = refused_comes _ _ _ _ _ _ (returns-in-Ok-clause-table g c)
+
+pub returns-in-Ok-clause-no_data : goal.returns-in-Ok-clause-no_data
+returns-in-Ok-clause-no_data g c = no_data_comes _ _ _ _ _ _ (returns-in-Ok-clause-table g c)
+
+pub returns-in-Ok-clause-too_large : goal.returns-in-Ok-clause-too_large
+returns-in-Ok-clause-too_large g c = too_large_comes _ _ _ _ _ _ (returns-in-Ok-clause-table g c)
+
+pub returns-in-Ok-clause-too_long : goal.returns-in-Ok-clause-too_long
+returns-in-Ok-clause-too_long g c = too_long_comes _ _ _ _ _ _ (returns-in-Ok-clause-table g c)
+
+pub returns-in-Err-clause-complete : goal.returns-in-Err-clause-complete
+returns-in-Err-clause-complete g c = completes _ _ _ _ _ _ (returns-in-Err-clause-table g c)
+
+pub returns-in-Err-clause-kept : goal.returns-in-Err-clause-kept
+returns-in-Err-clause-kept g c = kept _ _ _ _ _ _ (returns-in-Err-clause-table g c)
+
+pub returns-in-Err-clause-read_fault : goal.returns-in-Err-clause-read_fault
+returns-in-Err-clause-read_fault g c = read_rose _ _ _ _ _ _ (returns-in-Err-clause-table g c)
+
+pub returns-in-Err-clause-write_fault : goal.returns-in-Err-clause-write_fault
+returns-in-Err-clause-write_fault g c = cut_short _ _ _ _ _ _ (returns-in-Err-clause-table g c)
+
+pub returns-in-Ok-clause-complete : goal.returns-in-Ok-clause-complete
+returns-in-Ok-clause-complete g c = completes _ _ _ _ _ _ (returns-in-Ok-clause-table g c)

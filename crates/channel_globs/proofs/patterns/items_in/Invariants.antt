@@ -1,7 +1,7 @@
 use Rattle.std.proofs.Common.{◌≡◌, ◌==◌, map, take, Ok}
 use Rattle.std.specs.List.{slice_split}
 use Rattle.channel_globs.specs.PatternText.{item_of, without_spaces, comma}
-use Rattle.channel_globs.proofs.patterns.PatternList.read.Given as goal
+use Rattle.channel_globs.proofs.patterns.items_in.Given as goal
 
 -- each item so far was read
 abbrev pub invariant-items : goal.invariant-items

@@ -1,8 +1,8 @@
 use Rattle.std.proofs.Common.{arith, ◌≡◌, true, false, inl, inr, sym, ◌∙◌, refl}
 use Rattle.std.proofs.lemmas.List.{take_rest}
 use Rattle.centre.proofs.SelectWords.{some_words, no_words, texts_same}
-use Rattle.centre.proofs.words.positions_in.Goals as goal
-use Rattle.centre.proofs.words.positions_in.Goals.{then-not-is_select-via-then-not-is_select, then-not-is_select-via-else-not-is_select+then-not-are_positions}
+use Rattle.centre.proofs.commands.positions_in.Goals as goal
+use Rattle.centre.proofs.commands.positions_in.Goals.{then-not-is_select-via-then-not-is_select, then-not-is_select-via-else-not-is_select+then-not-are_positions}
 
 pub returns-then-not-is_select : goal.returns-then-not-is_select
 returns-then-not-is_select c =

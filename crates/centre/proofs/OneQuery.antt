@@ -1,0 +1,88 @@
+-- The words of `select` spell one query, or are refused in one way.
+use Rattle.std.proofs.Common.{◌≡◌, ℕ, List, [], ◌∷◌, Some, refl, sym, ap, ◌∙◌, arith}
+use Rattle.std.specs.List.{AllByRecursion}
+use Rattle.std.proofs.lemmas.Int.{ints}
+use Rattle.list_laws.proofs.Refusals.{none_without, one_without}
+use Rattle.exact_time.specs.MomentText.{IsMoment}
+use Rattle.exact_time.specs.declared.moment.Moment.{Moment}
+use Rattle.exact_time.proofs.Spellings.{one_moment}
+use Rattle.channel_globs.proofs.OneList.{one_list}
+use Rattle.channel_globs.specs.declared.nslc.Part.TheVariants.{Network, Station, Location, Channel}
+use Rattle.dataselect.specs.declared.query.DataQuery.{DataQuery}
+use Rattle.dataselect.specs.declared.query.Selection.{Selection}
+use Rattle.centre.specs.declared.ending.Refusal.{Refusal}
+use Rattle.centre.specs.declared.ending.Refusal.TheVariants.{UnknownCommand, Value, Order, Record, NoData, TooLarge, InputTooLong}
+use Rattle.centre.specs.Commands.{SelectWords}
+use Rattle.centre.specs.Words.{CanRead, tested_words, IsNamed, IsWindow, IsSelectQuery, IsBackwards, RefusesWords}
+
+one_time : (text : List ℕ) (a b : Moment) → IsMoment text a.micros → IsMoment text b.micros → a ≡ b
+one_time text a b h k = let e = one_moment text a.micros b.micros h k in λ i. record { micros = e i }
+
+one_selection : (w : SelectWords) (s t : Selection) → IsNamed w s → IsWindow w s → IsNamed w t → IsWindow w t → s ≡ t
+one_selection w s t h p k q =
+    let network = one_list Network w.network s.network t.network h.network_is k.network_is in
+    let station = one_list Station w.station s.station t.station h.station_is k.station_is in
+    let location = one_list Location w.location s.location t.location h.location_is k.location_is in
+    let channel = one_list Channel w.channel s.channel t.channel h.channel_is k.channel_is in
+    let start : s.start ≡ t.start = p.start_is ∙ ap Some (one_time w.start p.from q.from p.from_is q.from_is) ∙ sym q.start_is in
+    let end : s.end ≡ t.end = p.end_is ∙ ap Some (one_time w.end p.to q.to p.to_is q.to_is) ∙ sym q.end_is in
+    λ i. record { network = network i; station = station i; location = location i; channel = channel i; start = start i; end = end i }
+
+pub one_query : (w : SelectWords) (q r : DataQuery) → IsSelectQuery w q → IsSelectQuery w r → q ≡ r
+one_query w q r h k =
+    let selection = one_selection w h.selection k.selection h.named h.window k.named k.window in
+    let selections : q.selections ≡ r.selections = h.simple.only ∙ ap (λ (s : Selection). s ∷ []) selection ∙ sym k.simple.only in
+    let quality : q.quality ≡ r.quality = h.simple.quality ∙ sym k.simple.quality in
+    let minimum : q.minimum ≡ r.minimum = h.simple.minimum ∙ sym k.simple.minimum in
+    let longest : q.longest ≡ r.longest = h.simple.longest ∙ sym k.simple.longest in
+    let nodata : q.nodata ≡ r.nodata = h.simple.nodata ∙ sym k.simple.nodata in
+    λ i. record { selections = selections i; quality = quality i; minimum = minimum i; longest = longest i; nodata = nodata i }
+
+-- the words of a query can all be read, and so can those whose times are backwards
+query_reads : (w : SelectWords) (q : DataQuery) → IsSelectQuery w q → AllByRecursion (CanRead w) tested_words
+query_reads w q h = (
+  (h.selection.network, h.named.network_is),
+  (
+    (h.selection.station, h.named.station_is),
+    (
+      (h.selection.location, h.named.location_is),
+      ((h.selection.channel, h.named.channel_is), ((h.window.from.micros, h.window.from_is), ((h.window.to.micros, h.window.to_is), tt))),
+    ),
+  ),
+)
+
+backwards_reads : (w : SelectWords) → IsBackwards w → AllByRecursion (CanRead w) tested_words
+backwards_reads w h =
+    (h.lists.network_is, (h.lists.station_is, (h.lists.location_is, (h.lists.channel_is, ((h.from, h.from_is), ((h.to, h.to_is), tt))))))
+
+not_backwards : (w : SelectWords) (q : DataQuery) → IsSelectQuery w q → IsBackwards w → ⊥
+not_backwards w q h k =
+    let from : h.window.from.micros ≡ k.from = one_moment w.start h.window.from.micros k.from h.window.from_is k.from_is in
+    let to : h.window.to.micros ≡ k.to = one_moment w.end h.window.to.micros k.to h.window.to_is k.to_is in
+    omega (arith, ints, from, to, h.window.order, k.order)
+
+-- words that spell a query aren't refused
+pub no_refusal : (w : SelectWords) (q : DataQuery) (r : Refusal) → IsSelectQuery w q → RefusesWords w r → ⊥
+no_refusal w q (Value word) h k = none_without (CanRead w) tested_words word (query_reads w q h) k
+no_refusal w q Order h k = not_backwards w q h k
+no_refusal w q UnknownCommand h k = k
+no_refusal w q (Record at fault) h k = k
+no_refusal w q NoData h k = k
+no_refusal w q (TooLarge bytes limit) h k = k
+no_refusal w q InputTooLong h k = k
+
+pub one_refusal : (w : SelectWords) (r s : Refusal) → RefusesWords w r → RefusesWords w s → r ≡ s
+one_refusal w (Value a) (Value b) h k = ap Value (one_without (CanRead w) tested_words a b h k)
+one_refusal w (Value a) Order h k = absurd (none_without (CanRead w) tested_words a (backwards_reads w k) h)
+one_refusal w Order (Value b) h k = absurd (none_without (CanRead w) tested_words b (backwards_reads w h) k)
+one_refusal w Order Order h k = refl
+one_refusal w r UnknownCommand h k = absurd k
+one_refusal w r (Record at fault) h k = absurd k
+one_refusal w r NoData h k = absurd k
+one_refusal w r (TooLarge bytes limit) h k = absurd k
+one_refusal w r InputTooLong h k = absurd k
+one_refusal w UnknownCommand s h k = absurd h
+one_refusal w (Record at fault) s h k = absurd h
+one_refusal w NoData s h k = absurd h
+one_refusal w (TooLarge bytes limit) s h k = absurd h
+one_refusal w InputTooLong s h k = absurd h
