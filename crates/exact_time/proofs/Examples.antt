@@ -1,6 +1,7 @@
 -- Worked examples of the definitions.
-use Rattle.std.proofs.Common.{◌≡◌, ℕ, refl, pos, negsuc, arith, codes, Result, Ok, Err}
+use Rattle.std.proofs.Common.{◌≡◌, ℕ, ◌*◌, ◌/◌, refl, pos, negsuc, neg_ℤ, nat_lt, arith, codes, Result, Ok, Err}
 use Rattle.std.specs.declared.cmp.Ordering.TheVariants.{Less, Greater}
+use Rattle.std.specs.Fmt.{digits}
 use Rattle.std.proofs.Math.Nat.{one-dvd}
 use Rattle.std.proofs.lemmas.Int.{ints}
 use Rattle.jiff_core.specs.Calendar.{days_from_civil}
@@ -8,7 +9,13 @@ use Rattle.jiff_core.proofs.CalendarLemmas.{days_from_civil-day_count}
 use Rattle.exact_time.proofs.Calendar.{new_year_count}
 use Rattle.exact_time.specs.BTime.{clock_micros, btime_micros}
 use Rattle.exact_time.specs.declared.reading.CivilTime.{CivilTime}
-use Rattle.exact_time.specs.MomentText.{date_text, clock_text, IsDecimals, IsMoment, without_zulu}
+use Rattle.exact_time.specs.MomentText.{date_text, clock_text, date_micros, civil_micros, IsDecimals, IsMoment, without_zulu}
+use Rattle.exact_time.specs.Decimals.{decimal_text, millionths_of, short_digits, IsDecimal, IsDecimalForm, RefusesDecimal, Minus}
+use Rattle.exact_time.specs.Written.{IsCalendarTime, IsWritten, civil_text, greatest, moment_text}
+use Rattle.exact_time.proofs.Days.{day_1800, day_1900, day_2600, day_2701}
+use Rattle.exact_time.proofs.DecimalTexts.{decimal_right}
+use Rattle.exact_time.proofs.MomentTexts.{moment_text_is}
+use Rattle.exact_time.specs.declared.moment.TimeFault.TheVariants.{Form, Range}
 use Rattle.exact_time.specs.Causes.{Rose, HasCause}
 use Rattle.exact_time.specs.Rate.{seed_rate, IsFraction}
 use Rattle.exact_time.specs.SampleTime.{sample_micros, compare_sample}
@@ -101,3 +108,93 @@ moment = (
   },
   rw new_year refl,
 )
+
+-- the bounds of the moments that are written, and of those that a text may name
+first_written : date_micros 1800 1 1 ≡ neg_ℤ (pos 5_364_662_400_000_000)
+first_written = rw day_1800 refl
+
+written_before : date_micros 2701 1 1 ≡ pos 23_068_108_800_000_000
+written_before = rw day_2701 refl
+
+first_named : date_micros 1900 1 1 ≡ neg_ℤ (pos 2_208_988_800_000_000)
+first_named = rw day_1900 refl
+
+named_before : date_micros 2600 1 1 ≡ pos 19_880_899_200_000_000
+named_before = rw day_2600 refl
+
+noon_text : civil_text noon ≡ codes "2024-01-01T12:00:00.500000"
+noon_text = refl
+
+noon_is : IsCalendarTime noon
+noon_is = record {
+  year_in = (omega arith, omega arith);
+  month_in = (omega arith, omega arith);
+  day_in = (omega arith, omega arith);
+  hour = omega arith;
+  minute = omega arith;
+  second = omega arith;
+  micros = omega arith;
+}
+
+noon_moment : civil_micros noon ≡ pos 1_704_110_400_500_000
+noon_moment = rw new_year refl
+
+moment_written : moment_text (pos 1_704_110_400_500_000) ≡ codes "2024-01-01T12:00:00.500000"
+moment_written = moment_text_is noon (pos 1_704_110_400_500_000) noon_is noon_moment
+
+noon_is_written : IsWritten (codes "2024-01-01T12:00:00.500000") (pos 1_704_110_400_500_000)
+noon_is_written = record { time = noon; civil = noon_is; micros_is = noon_moment; text_is = refl }
+
+-- a test passes at 7 and below, so 7 is the greatest up to 9
+seven : greatest (λ n. nat_lt n 8) 9 ≡ 7
+unfolding greatest
+seven = refl
+
+-- a third, zero, twenty and minus a half as they are written
+third : decimal_text (pos (1 * 1_000_000 / 3)) ≡ codes "0.333333"
+unfolding digits
+third = refl
+
+nothing : decimal_text (pos 0) ≡ codes "0.0"
+unfolding digits
+nothing = refl
+
+twenty : decimal_text (pos 20_000_000) ≡ codes "20.0"
+unfolding digits
+twenty = refl
+
+minus_a_half : decimal_text (neg_ℤ (pos 500_000)) ≡ codes "-0.5"
+unfolding digits
+minus_a_half = refl
+
+shortened : short_digits (codes "050600") ≡ codes "0506"
+shortened = refl
+
+only_zeros : short_digits (codes "000000") ≡ codes "0"
+only_zeros = refl
+
+-- twelve and a quarter in millionths
+quarter : millionths_of (codes "12") (codes "25") ≡ 12_250_000
+quarter = refl
+
+half_form : IsDecimalForm (codes "-0.5") Minus (codes "0") (codes "5")
+half_form = record { text_is = refl; some = omega arith; whole_digits = refl; decimal_digits = refl; few = omega arith }
+
+half_read : IsDecimal (codes "-0.5") (neg_ℤ (pos 500_000))
+half_read = record { sign = Minus; whole = codes "0"; decimals = codes "5"; form = half_form; short = omega arith; value = refl }
+
+twelve : IsDecimal (codes "+12") (pos 12_000_000)
+twelve = decimal_right (codes "+12")
+
+-- a point stands between digits, and at most 18 digits stand before it
+bare_point : RefusesDecimal (codes "12.") Form
+bare_point = decimal_right (codes "12.")
+
+no_whole : RefusesDecimal (codes ".5") Form
+no_whole = decimal_right (codes ".5")
+
+seven_decimals : RefusesDecimal (codes "1.2345678") Form
+seven_decimals = decimal_right (codes "1.2345678")
+
+long_whole : RefusesDecimal (codes "0000000000000000001.5") Range
+long_whole = decimal_right (codes "0000000000000000001.5")

@@ -1,5 +1,12 @@
+pub mod Ascii
 pub mod Calendar
+pub mod Days
+pub mod DecimalTexts
+pub mod DecimalsWritten
+pub mod Digits
 pub mod Examples
 pub mod Lowest
+pub mod MomentTexts
 pub mod Rates
 pub mod Spellings
+pub mod WrittenTexts

@@ -1,4 +1,4 @@
-ghost use Rattle.std.specs.Prelude.{◌≡◌, ◌↔◌, ◌<◌, ◌≤◌, ◌≤ℤ◌, pos, negsuc, IsOk, IfOk, IfErr};
+ghost use Rattle.std.specs.Prelude.{◌≡◌, ◌↔◌, ◌<◌, ◌≤◌, ◌^◌, ◌≤ℤ◌, unsigned_abs, pos, negsuc, IsOk, IfOk, IfErr};
 ghost use Rattle.jiff_core.specs.Calendar.{days_in_year, days_from_civil};
 ghost use Rattle.exact_time.specs.BTime.{IsBTime, btime_micros, clock_micros};
 
@@ -41,6 +41,7 @@ pub fn clock(hour: u8, minute: u8, second: u8, rest: u32) -> u64
 pub fn btime(fields: BTime) -> Result<Moment, TimeFault>
     ensures ok { IsOk result ↔ IsBTime fields }
     ensures value { IfOk result (λ m. m.micros ≡ btime_micros fields) }
+    ensures bound { IfOk result (λ m. unsigned_abs m.micros < 2 ^ 62) }
     ensures err { IfErr result (λ e. e ≡ TimeFault.Range) }
 {
     let BTime {

@@ -90,6 +90,11 @@ impl Text {
         }
     }
 
+    /// Where the text takes its memory.
+    pub(crate) fn allocator(&self) -> Global {
+        *self.inner.allocator()
+    }
+
     /// Puts a piece of text at the end.
     pub fn push(&mut self, piece: &str) -> Result<(), OutOfMemory>
         ensures ok { OnOk result (self.new ≡ self.old ++ piece.now) }

@@ -6,12 +6,18 @@
 //! start of a record by [`btime`] (`specs/BTime.antt`; SEED 2.4, chapter 3, the BTIME structure), its
 //! rate by [`Ratio::of`] (`specs/Rate.antt`; SEED 2.4, fixed section of data header, fields 10 and 11).
 //!
+//! Moments, numbers and rates are written by [`Moment::write`] (`specs/Written.antt`),
+//! [`Decimal::write`] and [`Ratio::write`] (`specs/Decimals.antt`), and numbers are read by
+//! [`Decimal::read`]. A number that is written reads back as the same number, and a moment of 1900 to
+//! 2599 as the same moment; a rate is rounded down to six decimals.
+//!
 //! [`Bytes`], [`Text`] and [`Many`] are seen in contracts as their lists. [`Failed`] is the one error
 //! of every trait of the outside; `specs/Causes.antt` says when it may come.
 #![tactic(auto)]
 
 mod civil;
 mod compare;
+mod decimal;
 mod error;
 mod fields;
 mod growing;
@@ -21,9 +27,11 @@ mod reading;
 mod sample;
 #[cfg(test)]
 mod tests;
+mod writing;
 
 pub use civil::btime;
 pub use compare::cmp_sample_time;
+pub use decimal::Decimal;
 pub use error::{Failed, OutOfMemory};
 pub use fields::BTime;
 pub use growing::{Bytes, Many, Text};

@@ -8,12 +8,13 @@ pub struct Moment {
     pub micros: i64,
 }
 
-/// Why a text or the fields of a header are no moment, in the order of the tests.
+/// Why a text or the fields of a header are no moment, or a text is no decimal, in the order of the
+/// tests.
 #[derive(Clone, Copy, Debug, PartialEq, Eq)]
 pub enum TimeFault {
     /// The text has another shape.
     Form,
-    /// There is no such year, day or time of day.
+    /// There is no such year, day or time of day, or a decimal has too many digits before its point.
     Range,
 }
 

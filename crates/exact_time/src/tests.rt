@@ -1,8 +1,11 @@
 //! Worked examples, and each public call with ample memory. The moments are those of Python's datetime.
+ghost use Rattle.exact_time.specs.Written.{IsWritable};
+
 use crate::{
-    BTime, Bytes, Many, Moment, OutOfMemory, Ratio, SampleTime, Text, TimeFault, btime,
+    BTime, Bytes, Decimal, Many, Moment, OutOfMemory, Ratio, SampleTime, Text, TimeFault, btime,
     cmp_sample_time,
 };
+use std::alloc::Global;
 use std::cmp::Ordering;
 use std::process::Abort;
 
@@ -54,6 +57,137 @@ fn reads_moments(rt: HostRuntime) {
     ] {
         check_text(&rt, form, Err(TimeFault::Form));
     }
+}
+
+fn check_written(
+    rt: &impl Abort,
+    alloc: Global,
+    micros: i64,
+    wanted: &str,
+) -> Result<(), OutOfMemory>
+    requires { IsWritable micros }
+{
+    let mut text = Text::new(alloc);
+    text.push("at ")?;
+    Moment { micros }.write(&mut text)?;
+    assert_eq!(rt; &text.as_slice()[..3], b"at ".as_slice());
+    assert_eq!(rt; &text.as_slice()[3..], wanted.as_bytes(), "{wanted}");
+    Ok(())
+}
+
+// The first and the last moment of 1800, 1970 and 2599, and a moment of 2700.
+#[test]
+fn writes_moments(rt: HostRuntime) -> Result<(), OutOfMemory> {
+    let alloc = rt.alloc();
+    check_written(
+        &rt,
+        alloc,
+        -5_364_662_400_000_000,
+        "1800-01-01T00:00:00.000000",
+    )?;
+    check_written(
+        &rt,
+        alloc,
+        -5_333_126_400_000_001,
+        "1800-12-31T23:59:59.999999",
+    )?;
+    check_written(&rt, alloc, 0, "1970-01-01T00:00:00.000000")?;
+    check_written(&rt, alloc, 31_535_999_999_999, "1970-12-31T23:59:59.999999")?;
+    check_written(
+        &rt,
+        alloc,
+        19_849_363_200_000_000,
+        "2599-01-01T00:00:00.000000",
+    )?;
+    check_written(
+        &rt,
+        alloc,
+        19_880_899_199_999_999,
+        "2599-12-31T23:59:59.999999",
+    )?;
+    check_written(
+        &rt,
+        alloc,
+        1_706_790_896_789_012,
+        "2024-02-01T12:34:56.789012",
+    )?;
+    check_written(
+        &rt,
+        alloc,
+        23_068_108_799_999_999,
+        "2700-12-31T23:59:59.999999",
+    )
+}
+
+fn check_decimal(rt: &impl Abort, text: &str, wanted: Result<i128, TimeFault>) {
+    let read = match Decimal::read(text.as_bytes()) {
+        Ok(decimal) => Ok(decimal.millionths),
+        Err(fault) => Err(fault),
+    };
+    assert_eq!(rt; read, wanted, "{text}");
+}
+
+#[test]
+fn reads_decimals(rt: HostRuntime) {
+    check_decimal(&rt, "-0.5", Ok(-500_000));
+    check_decimal(&rt, "+12", Ok(12_000_000));
+    check_decimal(&rt, "007.123456", Ok(7_123_456));
+    check_decimal(&rt, "-0", Ok(0));
+    check_decimal(
+        &rt,
+        "999999999999999999.999999",
+        Ok(999_999_999_999_999_999_999_999),
+    );
+    check_decimal(&rt, "0000000000000000001", Err(TimeFault::Range));
+    for form in [
+        "",
+        "-",
+        "+-1",
+        "12.",
+        ".5",
+        "1.2345678",
+        "1.2.3",
+        "1 ",
+        "1e3",
+    ] {
+        check_decimal(&rt, form, Err(TimeFault::Form));
+    }
+}
+
+fn check_back(rt: &impl Abort, alloc: Global, text: &str, wanted: &str) -> Result<(), OutOfMemory> {
+    let mut written = Text::new(alloc);
+    if let Ok(decimal) = Decimal::read(text.as_bytes()) {
+        decimal.write(&mut written)?;
+    }
+    assert_eq!(rt; written.as_slice(), wanted.as_bytes(), "{text}");
+    Ok(())
+}
+
+#[test]
+fn writes_decimals(rt: HostRuntime) -> Result<(), OutOfMemory> {
+    let alloc = rt.alloc();
+    check_back(&rt, alloc, "0", "0.0")?;
+    check_back(&rt, alloc, "-0.5", "-0.5")?;
+    check_back(&rt, alloc, "+0012.340", "12.34")?;
+    check_back(&rt, alloc, "-0.000001", "-0.000001")?;
+    check_back(&rt, alloc, "100.050", "100.05")?;
+    check_back(
+        &rt,
+        alloc,
+        "999999999999999999.999999",
+        "999999999999999999.999999",
+    )
+}
+
+#[test]
+fn writes_rates(rt: HostRuntime) -> Result<(), OutOfMemory> {
+    let mut text = Text::new(rt.alloc());
+    for (factor, multiplier) in [(1, -3), (0, 1), (20, 1), (2, -3)] {
+        Ratio::of(factor, multiplier).write(&mut text)?;
+        text.push(" ")?;
+    }
+    assert_eq!(rt; text.as_slice(), b"0.333333 0.0 20.0 0.666666 ".as_slice());
+    Ok(())
 }
 
 fn last_day(year: u16, day: u16) -> Result<i64, TimeFault> {
