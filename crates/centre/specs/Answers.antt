@@ -34,7 +34,7 @@ places_for query rows = chosen_places all_seen query (held_rows rows)
 abbrev pub body_for : DataQuery → List Row → List ℕ
 body_for query rows = data_body all_seen query (held_rows rows)
 
--- The input is plain records end to end, and this is the data body of its rows. The rows have entry 0
+-- The input is records end to end, and this is the data body of its rows. The rows have entry 0
 -- and the moment 0, and some is chosen.
 pub record IsBodyOf (query : DataQuery) (input body : List ℕ) : Type 0 where
   pub within : length input ≤ MAX_INPUT
@@ -44,14 +44,14 @@ pub record IsBodyOf (query : DataQuery) (input body : List ℕ) : Type 0 where
   pub body_is : body ≡ body_for query rows
   pub fits : length body ≤ MAX_BYTES
 
--- the input is plain records, and none is chosen
+-- the input is records end to end, and none is chosen
 pub record HasNoData (query : DataQuery) (input : List ℕ) : Type 0 where
   pub within : length input ≤ MAX_INPUT
   pub rows : List Row
   pub records : AreRecords input 0 epoch rows
   pub none : places_for query rows ≡ []
 
--- the input is plain records, and the chosen ones have so many bytes, more than the limit
+-- the input is records end to end, and the chosen ones have so many bytes, more than the limit
 pub record HasTooMuch (query : DataQuery) (input : List ℕ) (bytes limit : ℕ) : Type 0 where
   pub within : length input ≤ MAX_INPUT
   pub rows : List Row

@@ -2,7 +2,7 @@
 use Rattle.std.specs.Prelude.{ℕ, List, [], ◌++◌, codes, Result, Ok, Err}
 use Rattle.std.specs.Fmt.{decimal}
 use Rattle.mseed_header.specs.declared.header.RecordFault.{RecordFault}
-use Rattle.mseed_header.specs.declared.header.RecordFault.TheVariants.{Short, NotPlain}
+use Rattle.mseed_header.specs.declared.header.RecordFault.TheVariants.{Short, Year, Time, Quality, Code, Chain, Length, NoBlockette1000, Reach}
 use Rattle.centre.specs.declared.ending.Word.{Word}
 use Rattle.centre.specs.declared.ending.Word.TheVariants.{Network, Station, Location, Channel, Start, End}
 use Rattle.centre.specs.declared.ending.Refusal.{Refusal}
@@ -40,7 +40,14 @@ name_of_word End = codes "END"
 
 abbrev pub name_of_fault : RecordFault → List ℕ
 name_of_fault Short = codes "Short"
-name_of_fault NotPlain = codes "NotPlain"
+name_of_fault Year = codes "Year"
+name_of_fault Time = codes "Time"
+name_of_fault Quality = codes "Quality"
+name_of_fault Code = codes "Code"
+name_of_fault Chain = codes "Chain"
+name_of_fault Length = codes "Length"
+name_of_fault NoBlockette1000 = codes "NoBlockette1000"
+name_of_fault Reach = codes "Reach"
 
 abbrev pub text_of_refusal : Refusal → List ℕ
 text_of_refusal UnknownCommand = codes "centre: unknown command line\n"

@@ -1,5 +1,5 @@
 //! Adapters over std's readers and writers. They count each error, and tell nothing.
-ghost use Rattle.std.specs.Prelude.{None};
+ghost use Rattle.std.specs.Prelude.{◌≡◌, None};
 
 use crate::streams::{Sink, Source};
 use exact_time::Failed;
@@ -14,7 +14,9 @@ pub struct StdSource<R> {
 
 impl<R: Read> StdSource<R> {
     /// A source that gives what the reader gives.
-    pub fn new(inner: R) -> Self {
+    pub fn new(inner: R) -> Self
+        ensures { ⟦<StdSource<R> as Source>⟧.faults result ≡ 0 }
+    {
         StdSource { inner, faults: 0 }
     }
 }
@@ -44,7 +46,9 @@ pub struct StdSink<W> {
 
 impl<W: Write> StdSink<W> {
     /// A sink that gives to the writer.
-    pub fn new(inner: W) -> Self {
+    pub fn new(inner: W) -> Self
+        ensures { ⟦<StdSink<W> as Sink>⟧.faults result ≡ 0 }
+    {
         StdSink { inner, faults: 0 }
     }
 }

@@ -1,8 +1,9 @@
 //! The program's commands over objects of the outside.
 //!
-//! What the program uses: [`run`] does what the words ask for. Its contract says, for every input of
-//! plain records, that with status 0 the sink got the data body of the input's rows for the query of
-//! the words, nothing more and nothing less, and for each other status why it came and what it leaves
+//! What the program uses: [`run`] does what the words ask for. Its contract says that what the words and
+//! the input determine (`specs/Answers.antt`) is what comes: with status 0 the sink got the data body of
+//! the input's records for the query of the words, nothing more and nothing less, and each other status
+//! comes where its cause holds (`specs/Settled.antt`), and leaves what the table says
 //! (`specs/Table.antt`).
 //!
 //! [`Source`] and [`Sink`] are what it needs of the outside. [`MemorySource`] and [`MemorySink`] are
@@ -13,6 +14,7 @@ mod adapters;
 mod commands;
 mod ending;
 mod help;
+mod law;
 mod memory;
 mod running;
 mod select;
@@ -26,6 +28,7 @@ mod words;
 pub use adapters::{StdSink, StdSource};
 pub use ending::{Refusal, Stop, Word};
 pub use help::{HELP, VERSION};
+pub use law::one_answer_at_most;
 pub use memory::{MemorySink, MemorySource};
 pub use running::run;
 pub use streams::{Sink, Source};

@@ -38,7 +38,7 @@ fn shelve<S: Shelf>(shelf: &mut S, rows: Many<Row>) -> Result<(), OutOfMemory>
     Ok(())
 }
 
-/// The data body of a query over an input of plain records end to end.
+/// The data body of a query over an input of records end to end.
 pub fn body_of(alloc: Global, query: &DataQuery, input: &[u8]) -> Result<Bytes, Stop>
     requires within { length input.now ≤ MAX_INPUT }
     requires minimum { query.now.minimum ≡ 0 }

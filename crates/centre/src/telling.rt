@@ -30,7 +30,14 @@ fn fault_name(fault: RecordFault) -> &'static str
 {
     match fault {
         RecordFault::Short => "Short",
-        RecordFault::NotPlain => "NotPlain",
+        RecordFault::Year => "Year",
+        RecordFault::Time => "Time",
+        RecordFault::Quality => "Quality",
+        RecordFault::Code => "Code",
+        RecordFault::Chain => "Chain",
+        RecordFault::Length => "Length",
+        RecordFault::NoBlockette1000 => "NoBlockette1000",
+        RecordFault::Reach => "Reach",
     }
 }
 

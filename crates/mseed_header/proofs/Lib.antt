@@ -1,5 +1,10 @@
 pub mod Batches
+pub mod Chains
 pub mod CodeFields
 pub mod Examples
-pub mod Heads
+pub mod Fronts
+pub mod Headers
 pub mod Rows
+pub mod Starts
+pub mod Steps
+pub mod Walked

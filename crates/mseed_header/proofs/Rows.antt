@@ -3,14 +3,14 @@ use Rattle.std.proofs.Common.{◌≡◌, ℕ, suc, ◌+◌, ◌≤ℤ◌, ◌<�
 use Rattle.std.specs.List.{slice_get}
 use Rattle.std.proofs.Props.{props}
 use Rattle.std.proofs.Math.Seq.{take-append_seam}
-use Rattle.std.proofs.lemmas.List.{take-append-le, append_cancel_left}
+use Rattle.std.proofs.lemmas.List.{append_cancel_left}
 use mathlib.Core.HLevel.{is_prop→PathP}
 use Rattle.list_laws.specs.Only.{IsOnly}
 use Rattle.list_laws.proofs.Answers.{only_from}
 use Rattle.exact_time.specs.declared.moment.Moment.{Moment}
-use Rattle.mseed_header.proofs.Batches.{long_enough}
-use Rattle.mseed_header.proofs.Heads.{one_head, one_fault, no_header}
-use Rattle.mseed_header.specs.Header.{IsPlainHead, IsPlainRecord, RefusesRecord}
+use Rattle.mseed_header.proofs.Fronts.{header_in_front, record_header, record_whole}
+use Rattle.mseed_header.proofs.Headers.{one_header, one_fault, no_header}
+use Rattle.mseed_header.specs.Header.{HasHeader, IsRecord, IsRecord-prop, RefusesRecord}
 use Rattle.mseed_header.specs.Records.{images_of, IsPlaced, AreRecords, IsFirstBad, IsBatchFault}
 use Rattle.mseed_header.specs.declared.cut.CutFault.{CutFault}
 use Rattle.mseed_header.specs.declared.cut.CutFault.TheVariants.{Bad, OutOfMemory}
@@ -27,35 +27,28 @@ same_row x y header image entry place moment = λ i. record {
   entry = entry i;
   place = place i;
   moment = moment i;
-  head = is_prop→PathP (λ j. IsPlainRecord (image j) (header j)) (λ j. hlevel props) x.head y.head i;
+  head = is_prop→PathP (λ j. IsRecord (image j) (header j)) (λ j. IsRecord-prop (image j) (header j)) x.head y.head i;
   since_1970 = is_prop→PathP (λ j. pos 0 ≤ℤ (moment j).micros) (λ j. hlevel props) x.since_1970 y.since_1970 i;
   before_2600 = is_prop→PathP (λ j. (moment j).micros <ℤ pos 19_880_899_200_000_000) (λ j. hlevel props) x.before_2600 y.before_2600 i;
 }
 
--- no plain record stands at the front of the bytes
+-- no record stands at the front of the bytes
 abbrev NoRecord : List ℕ → Type 0
-NoRecord bytes = (h : Header) (image rest : List ℕ) → bytes ≡ image ++ rest → IsPlainRecord image h → ⊥
-
--- the head of a record in front
-head_in_front : (image rest : List ℕ) (h : Header) → IsPlainRecord image h → take 56 (image ++ rest) ≡ take 56 image
-head_in_front image rest h is = take-append-le 56 image rest (let long = long_enough (take 56 image) h is.head in omega (arith, is.whole))
+NoRecord bytes = (h : Header) (image rest : List ℕ) → bytes ≡ image ++ rest → IsRecord image h → ⊥
 
 -- refused bytes have none in front, and no bytes have none
 refused_none : (bytes : List ℕ) (fault : RecordFault) → RefusesRecord bytes fault → NoRecord bytes
 refused_none bytes fault refused h image rest split is =
-    let same : take 56 image ≡ take 56 bytes = sym (ap (take 56) split ∙ head_in_front image rest h is) in
-    let size : length bytes ≡ length image + length rest = ap length split ∙ length-append image rest in
-    no_header bytes h fault (record { head = subst (λ (xs : List ℕ). IsPlainHead xs h) same is.head; whole = omega (arith, is.whole) }) refused
+    no_header bytes h fault (subst (λ (xs : List ℕ). HasHeader xs h) (sym split) (header_in_front image rest h is)) refused
 
 none_in_nothing : NoRecord []
-none_in_nothing = refused_none [] Short (inl (omega arith))
+none_in_nothing = refused_none [] Short (inl ((λ long. absurd (omega (arith, long))), refl))
 
 -- records in front of the same bytes are the same, and leave the same bytes
-one_in_front : (image other rest more : List ℕ) (h g : Header) → image ++ rest ≡ other ++ more → IsPlainRecord image h → IsPlainRecord other g → (image ≡ other) × (rest ≡ more)
+one_in_front : (image other rest more : List ℕ) (h g : Header) → image ++ rest ≡ other ++ more → IsRecord image h → IsRecord other g → (image ≡ other) × (rest ≡ more)
 one_in_front image other rest more h g split is also =
-    let heads : take 56 image ≡ take 56 other = sym (head_in_front image rest h is) ∙ ap (take 56) split ∙ head_in_front other more g also in
-    let header : h ≡ g = one_head (take 56 other) h g (subst (λ (xs : List ℕ). IsPlainHead xs h) heads is.head) also.head in
-    let size : length image ≡ length other = sym is.whole ∙ ap (λ (k : Header). k.length) header ∙ also.whole in
+    let header : h ≡ g = one_header (other ++ more) h g (subst (λ (xs : List ℕ). HasHeader xs h) split (header_in_front image rest h is)) (header_in_front other more g also) in
+    let size : length image ≡ length other = sym (record_whole image h is) ∙ ap (λ (k : Header). k.length) header ∙ record_whole other g also in
     let same : image ≡ other =
     sym (take-append_seam image rest) ∙ ap (take (length image)) split ∙ ap (λ (n : ℕ). take n (other ++ more)) size ∙ take-append_seam other more in
     (same, append_cancel_left other rest more (ap (λ (xs : List ℕ). xs ++ rest) (sym same) ∙ split))
@@ -87,7 +80,7 @@ same_rows entry moment first (x ∷ xs) [] h k e = (cc)
 same_rows entry moment first (x ∷ xs) (y ∷ ys) h k e =
     let image : x.image ≡ y.image = (cc) in
     let images : each_image xs ≡ each_image ys = (cc) in
-    let header : x.header ≡ y.header = one_head (take 56 y.image) x.header y.header (subst (λ (bytes : List ℕ). IsPlainHead (take 56 bytes) x.header) image x.head.head) y.head.head in
+    let header : x.header ≡ y.header = one_header y.image x.header y.header (subst (λ (bytes : List ℕ). HasHeader bytes x.header) image (record_header x.image x.header x.head)) (record_header y.image y.header y.head) in
     let a = h 0 first x (omega arith) refl in
     let b = k 0 first y (omega arith) refl in
     let row : x ≡ y = same_row x y header image (a.entry_is ∙ sym b.entry_is) (a.place_is ∙ sym b.place_is) (a.moment_is ∙ sym b.moment_is) in

@@ -2,7 +2,7 @@
 -- numbers of one header have one byte order, which is the first argument of each word here: `true`
 -- where the lowest byte stands first.
 use Rattle.std.specs.Prelude.{ℕ, Bool, true, false, List, slice_index, take, drop, ℤ}
-use Rattle.std.specs.Int.{w16, w32, cast_signed}
+use Rattle.std.specs.Int.{w8, w16, w32, cast_signed}
 use Rattle.byteorder.specs.Endian.{big_from, little_from}
 use Rattle.exact_time.specs.declared.fields.BTime.{BTime}
 
@@ -19,6 +19,9 @@ i16_at little bytes at = cast_signed w16 (number_at little bytes at 2)
 
 abbrev pub i32_at : Bool → List ℕ → ℕ → ℤ
 i32_at little bytes at = cast_signed w32 (number_at little bytes at 4)
+
+abbrev pub i8_at : List ℕ → ℕ → ℤ
+i8_at bytes at = cast_signed w8 (slice_index bytes at)
 
 -- so many bytes from an offset on
 abbrev pub bytes_at : List ℕ → ℕ → ℕ → List ℕ

@@ -1,5 +1,5 @@
 -- Records end to end.
-use Rattle.std.specs.Prelude.{◌≡◌, ◌≢◌, ℕ, List, [], ◌++◌, length, drop, Some, ⊤}
+use Rattle.std.specs.Prelude.{◌≡◌, ◌≢◌, ℕ, pos, ◌≤ℤ◌, ◌<ℤ◌, List, [], ◌++◌, length, drop, Some, ⊤}
 use Rattle.std.specs.List.{slice_get, flat_map}
 use Rattle.exact_time.specs.declared.moment.Moment.{Moment}
 use Rattle.mseed_header.specs.Header.{RefusesRecord}
@@ -22,6 +22,12 @@ pub record IsPlaced (entry : ℕ) (moment : Moment) (place : ℕ) (row : Row) : 
 pub record AreRecords (bytes : List ℕ) (entry : ℕ) (moment : Moment) (rows : List Row) : Type 0 where
   pub whole : bytes ≡ images_of rows
   pub placed : (i : ℕ) (row : Row) → slice_get rows i ≡ Some row → IsPlaced entry moment i row
+
+-- the bytes are records end to end: they have rows, whichever entry and moment of 1970 to 2599 brings them
+abbrev pub HasRecords : List ℕ → Type 0
+HasRecords bytes =
+    (entry : ℕ) (moment : Moment) → pos 0 ≤ℤ moment.micros → moment.micros <ℤ pos 19_880_899_200_000_000
+    → (rows : List Row) × AreRecords bytes entry moment rows
 
 -- whole records stand before this offset, and the bytes from there on are refused
 pub record IsFirstBad (bytes : List ℕ) (at : ℕ) (fault : RecordFault) : Type 0 where

@@ -1,6 +1,6 @@
 ghost use Rattle.std.specs.Prelude.{◌≡◌, ℕ, ℤ, pos, ◌≤ℤ◌, ◌<ℤ◌, ◌<◌, ◌^◌, ◌⊎◌, length, Err, IfOk, IfErr};
 ghost use Rattle.list_laws.specs.Only.{IsOnly};
-ghost use Rattle.mseed_header.specs.Header.{IsPlainRecord};
+ghost use Rattle.mseed_header.specs.Header.{IsRecord};
 ghost use Rattle.mseed_header.specs.Records.{AreRecords, RefusesBatch, IsBatchFault};
 
 use crate::{Header, RecordFault, Row, read_header};
@@ -47,7 +47,7 @@ fn row_of(
     place: u32,
     moment: Moment,
 ) -> Result<Row, OutOfMemory>
-    requires head { IsPlainRecord image.now header }
+    requires head { IsRecord image.now header }
     requires since_1970 { pos 0 ≤ℤ moment.micros }
     requires before_2600 { moment.micros <ℤ pos 19_880_899_200_000_000 }
     ensures image { IfOk result (λ row. row.image ≡ image.now) }

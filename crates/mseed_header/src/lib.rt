@@ -1,15 +1,17 @@
 //! Headers of miniSEED 2 records, and the records of a batch.
 //!
-//! What the crates above use: [`read_header`] is the header relation, both ways, for plain records
-//! (`specs/Header.antt`; SEED 2.4, fixed section of data header and blockette 1000), and
-//! [`cut_records`] cuts bytes into the records that stand in them end to end
+//! What the crates above use: [`read_header`] is the header relation, both ways, and tells the first
+//! test that isn't passed (`specs/Header.antt`; SEED 2.4, fixed section of data header, blockettes
+//! 1000 and 1001), and [`cut_records`] cuts bytes into the records that stand in them end to end
 //! (`specs/Records.antt`). A [`Row`] is a record with what its header says; its type keeps that the
 //! header is that of the bytes.
 //!
-//! A plain record is big-endian, has a sample rate factor and multiplier above 0, at least one
-//! sample, time correction 0, and one blockette, a blockette 1000 at offset 48.
+//! A header is read in the byte order in which its year is 1900 to 2055. Its chain of blockettes is
+//! `specs/Blockettes.antt`'s.
 #![tactic(auto)]
 
+mod batch;
+mod blockettes;
 mod code_field;
 mod cut;
 mod header;
@@ -19,6 +21,7 @@ mod read;
 mod row;
 mod times;
 
+pub use batch::first_refused;
 pub use cut::{CutFault, cut_records};
 pub use header::{Header, RecordFault};
 pub use quality::Quality;

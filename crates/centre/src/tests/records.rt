@@ -42,6 +42,21 @@ pub fn little_endian_record() -> [u8; 512] {
     changed(sampled, 44, &[0x40, 0x00, 0x30, 0x00, 0xe8, 0x03])
 }
 
+/// 25,000 microseconds past 5 s.
+pub fn late_record() -> [u8; 512] {
+    changed(anmo_record_at(5), 28, &[0x00, 0xfa])
+}
+
+/// A microsecond later, by a blockette 1001.
+pub fn later_record() -> [u8; 512] {
+    let chained = changed(changed(late_record(), 39, &[2]), 50, &[0x00, 0x38]);
+    changed(
+        chained,
+        56,
+        &[0x03, 0xe9, 0x00, 0x00, 0x00, 0x01, 0x00, 0x00],
+    )
+}
+
 /// The rows of a small batch, of entry 7 at 5 microseconds past 1970.
 pub fn cut(alloc: Global, batch: &[u8]) -> Result<Many<Row>, Fail> {
     if batch.len() > 1_000_000 {

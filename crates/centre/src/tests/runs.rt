@@ -1,5 +1,7 @@
 //! Runs of `select` over objects in memory.
-use super::records::{anmo_record, anmo_record_at, little_endian_record, three_hertz_record};
+use super::records::{
+    anmo_record, anmo_record_at, changed, little_endian_record, three_hertz_record,
+};
 use crate::{HELP, MemorySink, MemorySource, run};
 use exact_time::{Bytes, Many};
 use std::alloc::Global;
@@ -266,13 +268,22 @@ fn refuses_records_and_faults(rt: HostRuntime) -> Result<(), Fail> {
         b"",
         "centre: record at offset 512: Short\n",
     )?;
+    // The year 2055 is read, and 2056 isn't.
     check(
         &rt,
         &USUAL,
         &little_endian_record(),
+        3,
+        b"",
+        "centre: no data\n",
+    )?;
+    check(
+        &rt,
+        &USUAL,
+        &changed(little_endian_record(), 20, &[0x08, 0x08]),
         2,
         b"",
-        "centre: record at offset 0: NotPlain\n",
+        "centre: record at offset 0: Year\n",
     )?;
     let second_read = Faults { source: 2, sink: 0 };
     check_with(

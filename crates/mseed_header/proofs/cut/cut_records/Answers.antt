@@ -1,8 +1,9 @@
-use Rattle.std.proofs.Common.{arith, sym, ap, inl, inr, ◌-◌, Ok, Err, ◌∙◌, ◌≡◌, ◌++◌, ◌∷◌, take, drop, length, [], length-append}
+use Rattle.std.proofs.Common.{refl, arith, sym, ap, inl, inr, ◌-◌, Ok, Err, ◌∙◌, ◌≡◌, ◌++◌, ◌∷◌, take, drop, length, [], length-append}
 use Rattle.std.proofs.lemmas.List.{take-append-drop}
 use Rattle.std.proofs.lemmas.Result.{err_from_is_err_and}
 use Rattle.mseed_header.specs.Records.{IsPlaced}
-use Rattle.mseed_header.proofs.Batches.{long_enough, record_from, first_bad, images_more, placed_more, some_left, none_left}
+use Rattle.mseed_header.proofs.Fronts.{size_bounds, record_from}
+use Rattle.mseed_header.proofs.Batches.{first_bad, images_more, placed_more, some_left, none_left}
 use Rattle.mseed_header.proofs.Rows.{only_batch}
 use Rattle.mseed_header.specs.declared.cut.CutFault.TheVariants.{Bad}
 use Rattle.mseed_header.proofs.cut.cut_records.Goals as goal
@@ -10,10 +11,10 @@ use Rattle.mseed_header.proofs.cut.cut_records.Goals as goal
 pub returns-in-Err-clause-refused : goal.returns-in-Err-clause-refused
 returns-in-Err-clause-refused c =
     first_bad c.args.bytes.now c.records.rest.now c.records.rows c.in-Err.fault c.records.invariant.split
-    (some_left c.records.rest.now (sym c.is_empty.ensures ∙ c.records-test.true)) c.in-Err.ensures.short c.in-Err.ensures.not_plain
+    (some_left c.records.rest.now (sym c.is_empty.ensures ∙ c.records-test.true)) ((c.in-Err.ensures.refused c.in-Err.fault).0 refl)
 
 pub row_of-requires-clause-head : goal.row_of-requires-clause-head
-row_of-requires-clause-head c = record_from c.records.rest.now c.split_at.result.0.now c.in-Ok.header c.in-Ok.ensures.ok.head c.in-Ok.ensures.ok.whole c.split_at.ensures.front c.split_at.ensures.front_len
+row_of-requires-clause-head c = record_from c.records.rest.now c.split_at.result.0.now c.in-Ok.header c.in-Ok.ensures.ok c.split_at.ensures.front c.split_at.ensures.front_len
 
 pub records-preserved : goal.records-preserved
 records-preserved c =
@@ -28,7 +29,7 @@ records-preserved c =
     rw pushed (record {
       split = images_more c.args.bytes.now c.records.rest.now c.split_at.result.0.now c.split_at.result.1.now rows row c.records.invariant.split c.in_ok-row_of.ensures.image cut;
       placed = placed_more c.args.entry c.args.moment rows row c.records.invariant.placed placed;
-      few = omega (arith, length-append rows (row ∷ []), c.split_at.ensures.back_len, long_enough (take 56 c.records.rest.now) header c.in-Ok.ensures.ok.head, c.records.invariant.few);
+      few = omega (arith, length-append rows (row ∷ []), c.split_at.ensures.back_len, size_bounds c.records.rest.now header c.in-Ok.ensures.ok, c.records.invariant.few);
     })
 
 pub returns-in-Err-clause-exact : goal.returns-in-Err-clause-exact
@@ -51,3 +52,6 @@ pub returns-in_err-push-clause-exact : goal.returns-in_err-push-clause-exact
 returns-in_err-push-clause-exact c =
     let memory = err_from_is_err_and c.from_residual-in_err-push.result c.from_residual-in_err-push.ensures.1 in
     inl (memory.1 ∙ ap Err memory.2)
+
+pub records-smaller : goal.records-smaller
+records-smaller c = omega (arith, c.split_at.ensures.back_len, size_bounds c.records.rest.now c.in-Ok.header c.in-Ok.ensures.ok, c.in-Ok.ensures.ok.whole)

@@ -1,0 +1,54 @@
+-- The records that a walk over bytes has passed, as rows of any entry and moment.
+use Rattle.std.proofs.Common.{◌≡◌, ◌==◌, true, ℕ, pos, ◌≤ℤ◌, ◌<ℤ◌, List, [], ◌∷◌, ◌++◌, length, take, drop, Some, refl, take-append-drop, length-take-le}
+use Rattle.std.specs.List.{slice_get}
+use Rattle.exact_time.specs.declared.moment.Moment.{Moment}
+use Rattle.mseed_header.specs.declared.header.Header.{Header}
+use Rattle.mseed_header.specs.declared.row.Row.{Row}
+use Rattle.mseed_header.specs.Header.{HasHeader}
+use Rattle.mseed_header.specs.Records.{images_of, IsPlaced, HasRecords}
+use Rattle.mseed_header.proofs.Batches.{images_more, placed_more, none_left}
+use Rattle.mseed_header.proofs.Fronts.{record_from}
+
+-- rows whose images, and then what is left, are the bytes
+pub record AreWalked (bytes rest : List ℕ) (entry : ℕ) (moment : Moment) (rows : List Row) : Type 0 where
+  pub split : bytes ≡ images_of rows ++ rest
+  pub placed : (i : ℕ) (row : Row) → slice_get rows i ≡ Some row → IsPlaced entry moment i row
+
+abbrev pub HasWalked : List ℕ → List ℕ → Type 0
+HasWalked bytes rest =
+    (entry : ℕ) (moment : Moment) → pos 0 ≤ℤ moment.micros → moment.micros <ℤ pos 19_880_899_200_000_000
+    → (rows : List Row) × AreWalked bytes rest entry moment rows
+
+none_placed : (entry : ℕ) (moment : Moment) (i : ℕ) (row : Row) → slice_get [] i ≡ Some row → IsPlaced entry moment i row
+none_placed entry moment i row e = cc
+
+pub walk_begins : (bytes : List ℕ) → HasWalked bytes bytes
+walk_begins bytes = λ entry moment since before. ([], record { split = refl; placed = none_placed entry moment })
+
+-- one record more
+pub walks : (bytes rest : List ℕ) (h : Header) → HasHeader rest h → HasWalked bytes rest → HasWalked bytes (drop h.length rest)
+walks bytes rest h is walked = λ entry moment since before.
+    let far = walked entry moment since before in
+    let size : length (take h.length rest) ≡ h.length = length-take-le h.length rest is.whole in
+    let row : Row = record {
+      header = h;
+      image = take h.length rest;
+      entry = entry;
+      place = length far.0;
+      moment = moment;
+      head = record_from rest (take h.length rest) h is refl size;
+      since_1970 = since;
+      before_2600 = before;
+    } in (
+      far.0 ++ row ∷ [],
+      record {
+        split = images_more bytes rest (take h.length rest) (drop h.length rest) far.0 row far.1.split refl (take-append-drop h.length rest);
+        placed = placed_more entry moment far.0 row far.1.placed (record { entry_is = refl; moment_is = refl; place_is = refl });
+      },
+    )
+
+-- at the end
+pub walked_all : (bytes rest : List ℕ) → (length rest == 0) ≡ true → HasWalked bytes rest → HasRecords bytes
+walked_all bytes rest none walked = λ entry moment since before.
+    let far = walked entry moment since before in
+    (far.0, record { whole = none_left bytes rest far.0 far.1.split none; placed = far.1.placed })
