@@ -18,7 +18,7 @@ use Rattle.exact_time.proofs.MomentTexts.{moment_text_is}
 use Rattle.exact_time.specs.declared.moment.TimeFault.TheVariants.{Form, Range}
 use Rattle.exact_time.specs.Causes.{Rose, HasCause}
 use Rattle.exact_time.specs.Rate.{seed_rate, IsFraction}
-use Rattle.exact_time.specs.SampleTime.{sample_micros, compare_sample}
+use Rattle.exact_time.specs.SampleTime.{sample_micros, compare_sample, half_parts}
 use Rattle.exact_time.specs.declared.ratio.Ratio.{Ratio}
 
 date : date_text 2024 2 1 ≡ codes "2024-02-01"
@@ -198,3 +198,7 @@ seven_decimals = decimal_right (codes "1.2345678")
 
 long_whole : RefusesDecimal (codes "0000000000000000001.5") Range
 long_whole = decimal_right (codes "0000000000000000001.5")
+
+-- half a period at 3 Hz, in three parts of a microsecond
+half_of_three_hertz : half_parts three_hertz ≡ 500_000
+half_of_three_hertz = refl

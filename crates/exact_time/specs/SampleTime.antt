@@ -1,5 +1,5 @@
 -- Times of samples as exact fractions of a microsecond.
-use Rattle.std.specs.Prelude.{ℕ, ◌*◌, ◌==◌, if◌then◌else◌, ℤ, pos, ◌+ℤ◌, ◌*ℤ◌}
+use Rattle.std.specs.Prelude.{ℕ, ◌*◌, ◌==◌, max, if◌then◌else◌, ℤ, pos, neg_ℤ, ◌+ℤ◌, ◌-ℤ◌, ◌*ℤ◌, ◌≤ℤ◌}
 use Rattle.std.specs.Ordering.{int_cmp}
 use Rattle.std.specs.declared.cmp.Ordering.{Ordering}
 use Rattle.exact_time.specs.declared.ratio.Ratio.{Ratio}
@@ -25,3 +25,23 @@ time_micros t = sample_micros t.start.micros t.k t.rate
 
 abbrev pub sample_cmp : SampleTime → ℤ → Ordering
 sample_cmp t q = compare_sample t.start.micros t.k t.rate q
+
+-- how two sample times lie: each is multiplied by the divisor of the other
+abbrev pub times_cmp : SampleTime → SampleTime → Ordering
+times_cmp a b = int_cmp (time_micros a *ℤ pos (sample_parts b.rate)) (time_micros b *ℤ pos (sample_parts a.rate))
+
+-- half a sample period in microseconds, times `sample_parts`; 0 where the rate is 0
+abbrev pub half_parts : Ratio → ℕ
+half_parts rate = if rate.num == 0 then 0 else rate.den * 500_000
+
+-- how much later a moment is than a sample's time, times `sample_parts`
+abbrev pub lateness : SampleTime → ℤ → ℤ
+lateness t start = start *ℤ pos (sample_parts t.rate) -ℤ time_micros t
+
+-- the moment is later than the time by at most the greater of half a period and so many microseconds
+abbrev pub IsGapAtMost : SampleTime → ℤ → ℕ → Type 0
+IsGapAtMost t start slack = lateness t start ≤ℤ pos (max (slack * sample_parts t.rate) (half_parts t.rate))
+
+-- the time is later than the moment by at most half a period
+abbrev pub IsOverlapAtMost : SampleTime → ℤ → Type 0
+IsOverlapAtMost t start = neg_ℤ (lateness t start) ≤ℤ pos (half_parts t.rate)

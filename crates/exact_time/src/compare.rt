@@ -1,5 +1,5 @@
-ghost use Rattle.std.specs.Prelude.{◌≡◌, ◌≤◌, ◌<◌, ◌*◌, ◌^◌, pos, ◌*ℤ◌, unsigned_abs};
-ghost use Rattle.exact_time.specs.SampleTime.{sample_cmp, time_micros, sample_parts};
+ghost use Rattle.std.specs.Prelude.{◌≡◌, ◌≤◌, ◌<◌, ◌*◌, ◌^◌, ◌↔◌, pos, ◌*ℤ◌, ◌≤ℤ◌, unsigned_abs, IsTrue};
+ghost use Rattle.exact_time.specs.SampleTime.{sample_cmp, times_cmp, time_micros, sample_parts, half_parts, lateness, IsGapAtMost, IsOverlapAtMost};
 
 use crate::{Moment, SampleTime};
 use std::cmp::Ordering;
@@ -47,4 +47,65 @@ pub fn cmp_sample_time(time: SampleTime, q: Moment) -> Ordering
     ensures { result ≡ sample_cmp time q.micros }
 {
     micros(time).cmp(&scaled(q.micros, parts(time)))
+}
+
+// A time's microseconds, times another divisor too.
+fn crossed(time: SampleTime, parts: u32) -> i128
+    requires { parts ≤ 1_073_741_824 }
+    ensures { result ≡ time_micros time *ℤ pos parts }
+{
+    micros(time) * parts as i128
+}
+
+/// How two samples' times lie: exact, by cross multiplication.
+pub fn cmp_times(a: SampleTime, b: SampleTime) -> Ordering
+    ensures { result ≡ times_cmp a b }
+{
+    crossed(a, parts(b)).cmp(&crossed(b, parts(a)))
+}
+
+// Half a sample period in microseconds, times the divisor.
+fn half(time: SampleTime) -> u64
+    ensures value { result ≡ half_parts time.rate }
+    ensures bound { result < 2 ^ 50 }
+{
+    if time.rate.num == 0 {
+        0
+    } else {
+        time.rate.den as u64 * 500_000
+    }
+}
+
+// How much later the moment is than the time, times the divisor.
+fn lateness(time: SampleTime, q: Moment) -> i128
+    ensures value { result ≡ lateness time q.micros }
+    ensures bound { unsigned_abs result ≤ 2 ^ 95 }
+{
+    scaled(q.micros, parts(time)) - micros(time)
+}
+
+// Whether a signed number is at most an unsigned one.
+fn at_most(a: i128, most: u128) -> bool
+    requires { most < 2 ^ 127 }
+    ensures { IsTrue result ↔ (a ≤ℤ pos most) }
+{
+    a <= most as i128
+}
+
+/// Whether a record that starts at `start` follows without a gap: `start` is later than `next`, the time
+/// after the last sample before it, by at most half a sample period, or by at most `slack`
+/// microseconds. Half the period is 0 where the rate is 0.
+pub fn gap_at_most(next: SampleTime, start: Moment, slack: u64) -> bool
+    ensures { IsTrue result ↔ IsGapAtMost next start.micros slack }
+{
+    let room = slack as u128 * parts(next) as u128;
+    at_most(lateness(next, start), room.max(half(next) as u128))
+}
+
+/// Whether a record that starts at `start` doesn't overlap what is before it: `next` is later than
+/// `start` by at most half a sample period.
+pub fn overlap_at_most(next: SampleTime, start: Moment) -> bool
+    ensures { IsTrue result ↔ IsOverlapAtMost next start.micros }
+{
+    at_most(-lateness(next, start), half(next) as u128)
 }

@@ -30,7 +30,7 @@ mod tests;
 mod writing;
 
 pub use civil::btime;
-pub use compare::cmp_sample_time;
+pub use compare::{cmp_sample_time, cmp_times, gap_at_most, overlap_at_most};
 pub use decimal::Decimal;
 pub use error::{Failed, OutOfMemory};
 pub use fields::BTime;

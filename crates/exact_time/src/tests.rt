@@ -3,7 +3,7 @@ ghost use Rattle.exact_time.specs.Written.{IsWritable};
 
 use crate::{
     BTime, Bytes, Decimal, Many, Moment, OutOfMemory, Ratio, SampleTime, Text, TimeFault, btime,
-    cmp_sample_time,
+    cmp_sample_time, cmp_times, gap_at_most, overlap_at_most,
 };
 use std::alloc::Global;
 use std::cmp::Ordering;
@@ -275,6 +275,35 @@ fn compares_exactly(rt: HostRuntime) {
         cmp_sample_time(tenth, Moment { micros: 4_949_999 }),
         Ordering::Equal
     );
+}
+
+// Half a period is 25,000 microseconds at 20 Hz, and 166,666 and two thirds at 3 Hz.
+#[test]
+fn allows_half_a_period(rt: HostRuntime) {
+    let next = SampleTime {
+        start: Moment { micros: 0 },
+        k: 100,
+        rate: Ratio::of(20, 1),
+    };
+    assert!(rt; gap_at_most(next, Moment { micros: 5_025_000 }, 0));
+    assert!(rt; !gap_at_most(next, Moment { micros: 5_025_001 }, 0));
+    assert!(rt; gap_at_most(next, Moment { micros: 5_025_001 }, 25_001));
+    assert!(rt; overlap_at_most(next, Moment { micros: 4_975_000 }));
+    assert!(rt; !overlap_at_most(next, Moment { micros: 4_974_999 }));
+    let thirds = SampleTime {
+        start: Moment { micros: 0 },
+        k: 2,
+        rate: Ratio::of(3, 1),
+    };
+    assert!(rt; gap_at_most(thirds, Moment { micros: 833_333 }, 0));
+    assert!(rt; !gap_at_most(thirds, Moment { micros: 833_334 }, 0));
+    assert_eq!(rt; cmp_times(thirds, next), Ordering::Less);
+    let also = SampleTime {
+        start: Moment { micros: 4_000_000 },
+        k: 3,
+        rate: Ratio::of(3, 1),
+    };
+    assert_eq!(rt; cmp_times(also, next), Ordering::Equal);
 }
 
 #[test]
