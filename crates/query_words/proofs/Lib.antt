@@ -1,0 +1,13 @@
+pub mod Examples
+pub mod FrontSteps
+pub mod Held
+pub mod LineCuts
+pub mod Minimums
+pub mod OneDataGet
+pub mod OneDataPost
+pub mod PairSteps
+pub mod PostSteps
+pub mod RefusalLaws
+pub mod RowPlaces
+pub mod SaidWords
+pub mod SelectionSteps

@@ -1,0 +1,98 @@
+-- The parts of a body.
+use Rattle.std.proofs.Common.{◌≡◌, ◌↔◌, IsTrue, Bool, true, false, ℕ, ◌-◌, ◌<◌, ◌≤◌, List, [], ◌∷◌, Option, Some, length, map, take, drop, refl, sym, ap, subst, ◌∙◌, codes, arith, length-take, length-drop}
+use Rattle.std.proofs.lemmas.Bool.{iff_false}
+use Rattle.std.proofs.lemmas.List.{take-map, drop-map, length-map, take_rest}
+use Rattle.dataselect.specs.declared.query.DataQuery.{DataQuery}
+use Rattle.dataselect.specs.declared.query.Selection.{Selection}
+use Rattle.query_words.specs.declared.asked.Options.{Options}
+use Rattle.query_words.specs.declared.fault.QueryFault.{QueryFault}
+use Rattle.query_words.specs.declared.lines.BodyLine.{BodyLine}
+use Rattle.query_words.specs.declared.rows.Row.{Row}
+use Rattle.query_words.specs.declared.words.Word.{Word}
+use Rattle.query_words.specs.Bodies.{Numbered, seen, lines_of, front_count, front_of, rest_of, parameters_in, AreSelections}
+use Rattle.query_words.specs.DataGet.{said_or, AreOptions}
+use Rattle.query_words.specs.DataPost.{AreFew, IsRightFront, IsDataPost, HasNoSelection, RefusesPost}
+use Rattle.query_words.specs.Extracts.{AreOptionWords, IsMade}
+use Rattle.query_words.specs.Fronts.{HasFront, RefusesFront}
+use Rattle.query_words.specs.Parameters.{Parameter}
+use Rattle.query_words.specs.Rows.{Text, Named, rows_of, data_rows, data_options, named}
+use Rattle.query_words.specs.Selecting.{RefusesRest}
+use Rattle.query_words.specs.Values.{IsMinimum}
+use Rattle.query_words.specs.Words.{AreHeld}
+use Rattle.query_words.proofs.OneDataPost.{front_refuses, rest_refuses}
+use Rattle.query_words.proofs.SaidWords.{nodata_said, quality_said, minimum_said, flag_said}
+
+pub option_rows : (rows : List Row) → rows_of rows ≡ data_rows → rows_of (take 5 (drop 6 rows)) ≡ data_options
+option_rows rows is = sym (take-map named 5 (drop 6 rows)) ∙ ap (take 5) (sym (drop-map named 6 rows)) ∙ ap (λ (rs : List Named). take 5 (drop 6 rs)) is
+
+options_posted : (ps : List Parameter) (words : List (Option Word)) → AreHeld data_options ps words → (selections : List Selection) (o : Options) (q : DataQuery) → AreOptionWords words 0 o
+    → IsMade selections o q → AreOptions data_options ps q
+options_posted ps words held selections o q h k = record {
+  nodata_is = nodata_said _ _ (held.each 0 (omega arith)) ∙ ap Some (sym h.nodata_is ∙ sym k.nodata_is);
+  quality_is = quality_said _ _ (held.each 1 (omega arith)) ∙ ap Some (sym h.quality_is ∙ sym k.quality_is);
+  minimum_is = subst (λ n. IsMinimum (said_or (codes "0") data_options (codes "minimumlength") ps) n) (sym h.minimum_is ∙ sym k.minimum_is) (minimum_said _ _ (held.each 2 (omega arith)));
+  longest_is = flag_said _ _ (held.each 3 (omega arith)) ∙ ap Some (sym h.longest_is ∙ sym k.longest_is);
+}
+
+some_lines : (ls : List Numbered) (ss : List Selection) → AreSelections ls ss → (ss ≡ [] → ⊥) → 0 < length ls
+some_lines [] [] all some = absurd (some refl)
+some_lines [] (s ∷ ss) all some = absurd all
+some_lines (l ∷ ls) ss all some = omega arith
+
+no_lines : (ls : List Numbered) (ss : List Selection) → AreSelections ls ss → ss ≡ [] → ls ≡ []
+no_lines [] ss all none = refl
+no_lines (l ∷ ls) [] all none = absurd all
+no_lines (l ∷ ls) (s ∷ ss) all none = cc
+
+module _ (body : Text) (rows : List Row) (lines : List BodyLine) (front : ℕ) (rows_are : rows_of rows ≡ data_rows) (is : map seen lines ≡ lines_of body) (at : front ≡ front_count (map seen lines))
+    (first : front ≤ 1000) (others : length lines - front ≤ 10_000) where
+  count : front ≡ front_count (lines_of body)
+  count = at ∙ ap front_count is
+
+  front_at : map seen (take front lines) ≡ front_of body
+  front_at = sym (take-map seen front lines) ∙ ap (take front) is ∙ ap (λ n. take n (lines_of body)) count
+
+  dropped_at : map seen (drop front lines) ≡ rest_of body
+  dropped_at = sym (drop-map seen front lines) ∙ ap (drop front) is ∙ ap (λ n. drop n (lines_of body)) count
+
+  rest_at : map seen (take (length lines - front) (drop front lines)) ≡ rest_of body
+  rest_at = ap (map seen) (take_rest lines front) ∙ dropped_at
+
+  few : AreFew body
+  few = record {
+    parameters = let e = ap length front_at in let n = length-map (take front lines) seen in let t = length-take front lines in omega (arith, e, n, t, first);
+    selections = let e = ap length dropped_at in let n = length-map (drop front lines) seen in let t = length-drop front lines in omega (arith, e, n, t, others);
+  }
+
+  has_front : (words : List (Option Word)) → HasFront (rows_of (take 5 (drop 6 rows))) (map seen (take front lines)) words → HasFront data_options (front_of body) words
+  has_front words h = subst (λ (ls : List Numbered). HasFront data_options ls words) front_at (subst (λ (rs : List Named). HasFront rs (map seen (take front lines)) words) (option_rows rows rows_are) h)
+
+  -- the parameter lines are refused
+  pub post_front : (fault : QueryFault) → RefusesFront (rows_of (take 5 (drop 6 rows))) (map seen (take front lines)) fault → RefusesPost body fault
+  post_front fault h =
+      front_refuses body fault few (subst (λ (ls : List Numbered). RefusesFront data_options ls fault) front_at (subst (λ (rs : List Named). RefusesFront rs (map seen (take front lines)) fault) (option_rows rows rows_are) h))
+
+  module _ (words : List (Option Word)) (read : HasFront (rows_of (take 5 (drop 6 rows))) (map seen (take front lines)) words) where
+    right : IsRightFront body
+    right = record { few = few; taken = (has_front words read).taken }
+
+    -- the lines behind them are
+    pub post_rest : (fault : QueryFault) → RefusesRest (map seen (take (length lines - front) (drop front lines))) fault → RefusesPost body fault
+    post_rest fault h = rest_refuses body fault right (subst (λ (ls : List Numbered). RefusesRest ls fault) rest_at h)
+
+    module _ (ss : List Selection) (all : AreSelections (map seen (take (length lines - front) (drop front lines))) ss) (empty : Bool) (test : IsTrue empty ↔ (ss ≡ [])) where
+      selected : AreSelections (rest_of body) ss
+      selected = subst (λ (ls : List Numbered). AreSelections ls ss) rest_at all
+
+      -- no line selects
+      pub post_none : empty ≡ true → HasNoSelection body
+      post_none e = record { right = right; none = no_lines (rest_of body) ss selected (test.0 e) }
+
+      -- the parts make the query
+      pub post_asked : empty ≡ false → (o : Options) (q : DataQuery) → AreOptionWords words 0 o → IsMade ss o q → IsDataPost body q
+      post_asked e o q options made = record {
+        right = right;
+        selections_are = subst (λ (xs : List Selection). AreSelections (rest_of body) xs) (sym made.selections_are) selected;
+        some = some_lines (rest_of body) ss selected (iff_false test e);
+        options = options_posted (parameters_in (front_of body)) words (has_front words read).held ss o q options made;
+      }

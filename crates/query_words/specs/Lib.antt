@@ -1,0 +1,11 @@
+pub mod Bodies
+pub mod DataGet
+pub mod DataPost
+pub mod Extracts
+pub mod FirstRefusals
+pub mod Fronts
+pub mod Parameters
+pub mod Rows
+pub mod Selecting
+pub mod Values
+pub mod Words

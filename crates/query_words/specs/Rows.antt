@@ -1,0 +1,69 @@
+-- The names that a method has (FDSN Web Service Specifications 1.2, dataselect, query parameters).
+use Rattle.std.specs.Prelude.{ℕ, List, [], ◌∷◌, Bool, ◌||◌, Option, map, position, get_or, codes}
+use Rattle.std.specs.Char.{to_ascii_lowercase}
+use Rattle.std.specs.Str.{bytes_eq}
+use Rattle.channel_globs.specs.declared.nslc.Part.TheVariants.{Network, Station, Location, Channel}
+use Rattle.query_words.specs.declared.rows.Row.{Row}
+use Rattle.query_words.specs.declared.rows.Kind.{Kind}
+use Rattle.query_words.specs.declared.rows.Kind.TheVariants.{Time, Patterns, Nodata, Quality, Seconds, Flag, Format}
+
+abbrev pub Text : Type 0
+Text = List ℕ
+
+-- a row, without where its texts lie in memory
+pub record Named : Type 0 where
+  pub name : Text
+  pub alias : Text
+  pub kind : Kind
+
+abbrev pub named : Row → Named
+named row = record { name = row.name.now; alias = row.alias.now; kind = row.kind }
+
+abbrev pub rows_of : List Row → List Named
+rows_of table = map named table
+
+abbrev pub with_alias : Text → Text → Kind → Named
+with_alias name alias kind = record { name = name; alias = alias; kind = kind }
+
+abbrev pub alone : Text → Kind → Named
+alone name kind = with_alias name name kind
+
+-- the options of dataselect, which a body may have too
+abbrev pub data_options : List Named
+data_options =
+    alone (codes "nodata") Nodata
+    ∷ alone (codes "quality") Quality
+    ∷ alone (codes "minimumlength") Seconds
+    ∷ alone (codes "longestonly") Flag
+    ∷ alone (codes "format") Format
+    ∷ []
+
+-- the names of dataselect
+abbrev pub data_rows : List Named
+data_rows =
+    with_alias (codes "starttime") (codes "start") Time
+    ∷ with_alias (codes "endtime") (codes "end") Time
+    ∷ with_alias (codes "network") (codes "net") (Patterns Network)
+    ∷ with_alias (codes "station") (codes "sta") (Patterns Station)
+    ∷ with_alias (codes "location") (codes "loc") (Patterns Location)
+    ∷ with_alias (codes "channel") (codes "cha") (Patterns Channel)
+    ∷ data_options
+
+-- two texts are one but for the case of ASCII letters
+abbrev pub same_name : Text → Text → Bool
+same_name a b = bytes_eq (map to_ascii_lowercase a) (map to_ascii_lowercase b)
+
+-- a row has two names, which are one
+abbrev pub is_called : Named → Text → Bool
+is_called row name = same_name name row.name || same_name name row.alias
+
+-- the row of a name in a table
+abbrev pub row_of : List Named → Text → Option ℕ
+row_of rows name = position (λ row. is_called row name) rows
+
+abbrev pub no_row : Named
+no_row = record { name = []; alias = []; kind = Time }
+
+-- the kind of value of a row
+abbrev pub kind_of : List Named → ℕ → Kind
+kind_of rows row = (get_or rows row no_row).kind

@@ -1,0 +1,68 @@
+-- The values of single parameters (FDSN Web Service Specifications 1.2, dataselect, query parameters).
+use Rattle.std.specs.Prelude.{◌≡◌, ℕ, ℤ, ◌≤◌, ◌==◌, ◌||◌, pos, Bool, true, false, List, [], ◌∷◌, Option, Some, None, if◌then◌else◌, codes}
+use Rattle.std.specs.Str.{bytes_eq, chars}
+use Rattle.std.specs.List.{list_any}
+use Rattle.exact_time.specs.MomentText.{IsMoment}
+use Rattle.exact_time.specs.Decimals.{IsDecimal}
+use Rattle.channel_globs.specs.PatternText.{IsPatternList}
+use Rattle.mseed_header.specs.declared.quality.Quality.{Quality}
+use Rattle.mseed_header.specs.declared.quality.Quality.TheVariants.{D, M, Q, R}
+use Rattle.dataselect.specs.declared.query.Nodata.{Nodata}
+use Rattle.dataselect.specs.declared.query.Nodata.TheVariants.{Quiet, NotFound}
+use Rattle.query_words.specs.Rows.{Text, same_name}
+use Rattle.query_words.specs.declared.rows.Kind.{Kind}
+use Rattle.query_words.specs.declared.rows.Kind.TheVariants as kind
+
+-- the quality that a letter asks for: B, any, and each other its own
+abbrev pub asked_of : ℕ → Option (Option Quality)
+asked_of letter =
+    if letter == 66 then Some None
+    else (if letter == 68 then Some (Some D)
+    else (if letter == 82 then Some (Some R)
+    else (if letter == 81 then Some (Some Q)
+    else (if letter == 77 then Some (Some M) else None))))
+
+-- the quality that a text asks for
+abbrev pub quality_of : Text → Option (Option Quality)
+quality_of (letter ∷ []) = asked_of letter
+quality_of _ = None
+
+-- what a text says of an answer without data, by its HTTP status
+abbrev pub nodata_of : Text → Option Nodata
+nodata_of text =
+    if bytes_eq text (codes "204") then Some Quiet
+    else (if bytes_eq text (codes "404") then Some NotFound else None)
+
+-- true or false, without regard to case
+abbrev pub flag_of : Text → Option Bool
+flag_of text =
+    if same_name text (codes "true") || bytes_eq text (codes "1") then Some true
+    else (if same_name text (codes "false") || bytes_eq text (codes "0") then Some false else None)
+
+-- a decimal from 0 to 10^10, counted in millionths
+pub record IsMinimum (text : Text) (micros : ℕ) : Type 0 where
+  pub decimal : IsDecimal text (pos micros)
+  pub small : micros ≤ 10_000_000_000_000_000
+
+-- the text is a value of that kind
+abbrev pub CanRead : Kind → Text → Type 0
+CanRead kind.Time text = (micros : ℤ) × IsMoment text micros
+CanRead (kind.Patterns part) text = (list : List Text) × IsPatternList part text list
+CanRead kind.Nodata text = (nodata : Nodata) × (nodata_of text ≡ Some nodata)
+CanRead kind.Quality text = (quality : Option Quality) × (quality_of text ≡ Some quality)
+CanRead kind.Seconds text = (micros : ℕ) × IsMinimum text micros
+CanRead kind.Flag text = (flag : Bool) × (flag_of text ≡ Some flag)
+CanRead kind.Format text = text ≡ codes "miniseed"
+
+-- the text has the character that stands for what isn't UTF-8, U+FFFD
+abbrev pub is_garbled : Text → Bool
+is_garbled text = list_any (λ c. c == 0xFFFD) (chars text)
+
+-- the text is a value of that kind, in UTF-8
+pub record Reads (kind : Kind) (text : Text) : Type 0 where
+  pub plain : is_garbled text ≡ false
+  pub can : CanRead kind text
+
+-- the text is a value that this data centre leaves out; of the kinds of dataselect none is
+abbrev pub IsLeftOut : Kind → Text → Type 0
+IsLeftOut _ text = ⊥

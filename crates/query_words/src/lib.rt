@@ -1,0 +1,37 @@
+//! Queries for waveforms as clients write them (FDSN Web Service Specifications 1.2, dataselect).
+//!
+//! What the crates above use: [`data_get`] reads a query string and [`data_post`] a body. Each answers
+//! Ok exactly where the text spells that query (`IsDataGet` of `specs/DataGet.antt`, `IsDataPost` of
+//! `specs/DataPost.antt`), and else the one fault that the text has (`IsGetFault`, `IsPostFault`): no
+//! text has two answers. Only [`QueryFault::OutOfMemory`] needs no cause.
+//!
+//! A query string is a list of parameters, decoded as web forms are (`specs/Parameters.antt`). Which
+//! names a method has, and what kind of value each takes, stands in a table of rows
+//! (`specs/Rows.antt`, `src/rows.rt`); the engine in `src/words.rt` reads parameters by any such table.
+//! The first wrong parameter decides: each before it is right, and it is refused
+//! (`specs/FirstRefusals.antt`). What an absent parameter means, the text that is its default, stands
+//! in `specs/DataGet.antt`.
+//!
+//! A body has parameter lines, each a name, `=` and a value, and then selection lines of six fields
+//! (`specs/Bodies.antt`). Blank lines are passed over, and numbers count all lines.
+//!
+//! [`read_quality`], [`read_minimum`], [`read_longest`] and [`read_nodata`] read single values.
+#![tactic(auto)]
+
+mod asked;
+mod fault;
+mod front;
+mod get;
+mod lines;
+mod post;
+mod rows;
+mod selections;
+#[cfg(test)]
+mod tests;
+mod values;
+mod words;
+
+pub use fault::QueryFault;
+pub use get::data_get;
+pub use post::data_post;
+pub use values::{BadValue, read_longest, read_minimum, read_nodata, read_quality};

@@ -1,0 +1,210 @@
+//! Worked rows, and each public call with ample memory.
+use crate::{
+    QueryFault, data_get, data_post, read_longest, read_minimum, read_nodata, read_quality,
+};
+use channel_globs::Code;
+use dataselect::{DataQuery, Nodata};
+use exact_time::Moment;
+use mseed_header::Quality;
+use std::alloc::Global;
+use std::process::Abort;
+use std::test::Fail;
+
+fn get_fault(alloc: Global, query: &[u8]) -> Option<QueryFault> {
+    match data_get(alloc, query) {
+        Ok(_) => None,
+        Err(fault) => Some(fault),
+    }
+}
+
+fn post_fault(alloc: Global, body: &[u8]) -> Option<QueryFault> {
+    match data_post(alloc, body) {
+        Ok(_) => None,
+        Err(fault) => Some(fault),
+    }
+}
+
+fn code(text: &str) -> Result<Code, Fail> {
+    Ok(Code::of(text.as_bytes()).ok_or("no code")?)
+}
+
+fn moment(text: &str) -> Result<Moment, Fail> {
+    Ok(Moment::read(text.as_bytes())?)
+}
+
+fn selects(query: &DataQuery, place: usize, channel: &str) -> Result<bool, Fail> {
+    let selections = query.selections.as_slice();
+    if place >= selections.len() {
+        return Err("no such selection")?;
+    }
+    Ok(selections[place].channel.matches(&code(channel)?))
+}
+
+#[test]
+fn tells_the_first_fault_of_a_query_string(rt: HostRuntime) -> Result<(), Fail> {
+    let alloc = rt.alloc();
+    let rows = [
+        ("net=IU&network=IU", QueryFault::Repeated(2)),
+        ("foo=1", QueryFault::Unknown(1)),
+        ("NET=IU&&foo", QueryFault::Unknown(2)),
+        ("=", QueryFault::Unknown(1)),
+        ("start=2024-02-02&end=2024-02-01", QueryFault::Order),
+        (
+            "start=2024-02-02&end=2024-02-01&quality=X",
+            QueryFault::Value(3),
+        ),
+        ("start=2024-13-01", QueryFault::Value(1)),
+        ("net=%FF", QueryFault::Value(1)),
+        ("format=MiniSEED", QueryFault::Value(1)),
+        ("minimumlength=-1&foo=1", QueryFault::Value(1)),
+    ];
+    for (query, fault) in rows {
+        assert_eq!(&rt; get_fault(alloc, query.as_bytes()), Some(fault), "{query}");
+    }
+    Ok(())
+}
+
+#[test]
+fn reads_a_query_string(rt: HostRuntime) -> Result<(), Fail> {
+    let alloc = rt.alloc();
+    let text =
+        "Net=IU&sta=ANMO&loc=--&CHA=BH%3F&starttime=2024-02-01T00%3A00%3A00&end=2024-02-02&quality=M&longestonly=TRUE&minimumlength=1.5&nodata=404&format=miniseed";
+    let query = data_get(alloc, text.as_bytes())?;
+    assert!(&rt; selects(&query, 0, "BHZ")?);
+    assert!(&rt; !selects(&query, 0, "LHZ")?);
+    let selections = query.selections.as_slice();
+    assert_eq!(&rt; selections.len(), 1);
+    if let [only] = selections {
+        assert_eq!(&rt; only.start, Some(moment("2024-02-01")?));
+        assert_eq!(&rt; only.end, Some(moment("2024-02-02")?));
+        assert!(&rt; only.location.matches(&code("  ")?));
+        assert!(&rt; !only.location.matches(&code("00")?));
+    }
+    assert_eq!(&rt; query.quality, Some(Quality::M));
+    assert_eq!(&rt; query.minimum, 1_500_000);
+    assert!(&rt; query.longest);
+    assert_eq!(&rt; query.nodata, Nodata::NotFound);
+
+    let all = data_get(alloc, b"")?;
+    assert!(&rt; selects(&all, 0, "BHZ")?);
+    assert_eq!(&rt; all.quality, None);
+    assert_eq!(&rt; all.minimum, 0);
+    assert!(&rt; !all.longest);
+    assert_eq!(&rt; all.nodata, Nodata::Quiet);
+    Ok(())
+}
+
+#[test]
+fn reads_a_body(rt: HostRuntime) -> Result<(), Fail> {
+    let alloc = rt.alloc();
+    let body =
+        " quality = B\r\n\r\n \t\r\nIU ANMO 00 BHZ 2024-02-01 2024-02-02\r\nIU  ANMO\t-- BH? 2024-02-01 *\r\n";
+    let query = data_post(alloc, body.as_bytes())?;
+    assert_eq!(&rt; query.selections.len(), 2);
+    assert_eq!(&rt; query.quality, None);
+    assert!(&rt; !selects(&query, 0, "BHN")?);
+    assert!(&rt; selects(&query, 1, "BHN")?);
+    if let [first, second] = query.selections.as_slice() {
+        assert_eq!(&rt; first.end, Some(moment("2024-02-02")?));
+        assert_eq!(&rt; second.end, None);
+    }
+    Ok(())
+}
+
+#[test]
+fn tells_the_first_fault_of_a_body(rt: HostRuntime) -> Result<(), Fail> {
+    let alloc = rt.alloc();
+    let rows = [
+        ("IU ANMO 00 BHZ * *\nIU ANMO 00 BHZ *", QueryFault::Line(2)),
+        ("quality=B", QueryFault::NoLine),
+        ("", QueryFault::NoLine),
+        (
+            "quality=B\n\nquality=D\nIU ANMO 00 BHZ * *",
+            QueryFault::Repeated(3),
+        ),
+        ("net=IU\nIU ANMO 00 BHZ * *", QueryFault::Unknown(1)),
+        ("IU ANMO 00 BHZ * *\nquality=B", QueryFault::Line(2)),
+        ("quality=\u{e9}\n", QueryFault::Line(1)),
+        (
+            "IU ANMO 00 BHZ 2024-02-02 2024-02-01\n",
+            QueryFault::Line(1),
+        ),
+        ("IU ANMO 00 BHZ * *\r", QueryFault::Line(1)),
+        ("nodata=205", QueryFault::Value(1)),
+    ];
+    for (body, fault) in rows {
+        assert_eq!(&rt; post_fault(alloc, body.as_bytes()), Some(fault), "{body}");
+    }
+    Ok(())
+}
+
+fn repeated(alloc: Global, piece: &str, times: usize) -> Result<String, Fail> {
+    let mut text = String::new(alloc);
+    for _ in 0..times {
+        text.push_str(piece)?;
+    }
+    Ok(text)
+}
+
+#[test]
+fn counts_before_it_reads(rt: HostRuntime) -> Result<(), Fail> {
+    let alloc = rt.alloc();
+    let many = repeated(alloc, "foo=1&", 1001)?;
+    assert_eq!(&rt;
+        get_fault(alloc, many.as_bytes()),
+        Some(QueryFault::TooMany)
+    );
+    let enough = repeated(alloc, "foo=1&", 1000)?;
+    assert_eq!(&rt;
+        get_fault(alloc, enough.as_bytes()),
+        Some(QueryFault::Unknown(1))
+    );
+    let lines = repeated(alloc, "foo=1\n", 1001)?;
+    assert_eq!(&rt;
+        post_fault(alloc, lines.as_bytes()),
+        Some(QueryFault::TooMany)
+    );
+    let selections = repeated(alloc, "IU A 00 B * *\n", 10_001)?;
+    assert_eq!(&rt;
+        post_fault(alloc, selections.as_bytes()),
+        Some(QueryFault::TooMany)
+    );
+    let fewer = repeated(alloc, "IU A 00 B * *\n", 10_000)?;
+    assert_eq!(&rt; post_fault(alloc, fewer.as_bytes()), None);
+    Ok(())
+}
+
+#[test]
+fn reads_single_values(rt: HostRuntime) -> Result<(), Fail> {
+    assert_eq!(&rt; read_quality(b"B").ok(), Some(None));
+    assert_eq!(&rt; read_quality(b"Q").ok(), Some(Some(Quality::Q)));
+    assert!(&rt; read_quality(b"q").is_err());
+    assert_eq!(&rt;
+        read_minimum(b"10000000000").ok(),
+        Some(10_000_000_000_000_000)
+    );
+    assert!(&rt; read_minimum(b"10000000000.000001").is_err());
+    assert_eq!(&rt; read_longest(b"False").ok(), Some(false));
+    assert_eq!(&rt; read_longest(b"1").ok(), Some(true));
+    assert!(&rt; read_longest(b"yes").is_err());
+    assert_eq!(&rt; read_nodata(b"404").ok(), Some(Nodata::NotFound));
+    Ok(())
+}
+
+#[test]
+fn writes_faults(rt: HostRuntime) -> Result<(), Fail> {
+    let alloc = rt.alloc();
+    assert_eq!(&rt;
+        format!(in alloc; "{}", QueryFault::Unknown(1))?.as_str(),
+        "Unknown 1"
+    );
+    assert_eq!(&rt;
+        format!(in alloc; "{}", QueryFault::TooMany)?.as_str(),
+        "TooMany"
+    );
+    assert_eq!(&rt;
+        format!(in alloc; "{}", QueryFault::OutOfMemory)?.as_str(),
+        "out of memory"
+    );
+    Ok(())
+}

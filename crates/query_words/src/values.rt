@@ -1,0 +1,83 @@
+//! The values of single parameters.
+ghost use Rattle.std.specs.Prelude.{◌≡◌, Option, Some, None, ℕ, MatchResult};
+ghost use Rattle.query_words.specs.Values.{asked_of, quality_of, nodata_of, flag_of, IsMinimum};
+
+use dataselect::Nodata;
+use exact_time::Decimal;
+use mseed_header::Quality;
+
+// The greatest minimum length: 10^10 seconds, in microseconds.
+const GREATEST_MINIMUM: i128 = 10_000_000_000_000_000;
+
+/// The text is no value of that parameter.
+#[derive(Clone, Copy, Debug, PartialEq, Eq)]
+pub struct BadValue;
+
+// The quality that a letter asks for.
+fn asked(letter: u8) -> Option<Option<Quality>>
+    ensures { result ≡ asked_of letter }
+{
+    match letter {
+        b'B' => Some(None),
+        b'D' => Some(Some(Quality::D)),
+        b'R' => Some(Some(Quality::R)),
+        b'Q' => Some(Some(Quality::Q)),
+        b'M' => Some(Some(Quality::M)),
+        _ => None,
+    }
+}
+
+/// A quality (`quality`): `D`, `R`, `Q`, `M`, or `B`, which is any.
+pub fn read_quality(text: &[u8]) -> Result<Option<Quality>, BadValue>
+    ensures exact { MatchResult result (λ quality. quality_of text.now ≡ Some quality) (λ _. quality_of text.now ≡ None) }
+{
+    let [letter] = text else {
+        return Err(BadValue);
+    };
+    match asked(*letter) {
+        Some(quality) => Ok(quality),
+        None => Err(BadValue),
+    }
+}
+
+/// The least length of a segment (`minimumlength`): a decimal of seconds from 0 to 10^10, given in
+/// microseconds.
+pub fn read_minimum(text: &[u8]) -> Result<u64, BadValue>
+    ensures exact { MatchResult result (IsMinimum text.now) (λ _. (micros : ℕ) → ¬ (IsMinimum text.now micros)) }
+{
+    let Ok(seconds) = Decimal::read(text) else {
+        return Err(BadValue);
+    };
+    let micros = seconds.millionths;
+    if micros < 0 || micros > GREATEST_MINIMUM {
+        return Err(BadValue);
+    }
+    Ok(micros as u64)
+}
+
+/// Whether only the longest segment is asked for (`longestonly`): `true` or `1`, `false` or `0`,
+/// without regard to case.
+pub fn read_longest(text: &[u8]) -> Result<bool, BadValue>
+    ensures exact { MatchResult result (λ longest. flag_of text.now ≡ Some longest) (λ _. flag_of text.now ≡ None) }
+{
+    if text.eq_ignore_ascii_case(b"true") || text == b"1".as_slice() {
+        return Ok(true);
+    }
+    if text.eq_ignore_ascii_case(b"false") || text == b"0".as_slice() {
+        return Ok(false);
+    }
+    Err(BadValue)
+}
+
+/// What a client is told where nothing is chosen (`nodata`): `204` or `404`.
+pub fn read_nodata(text: &[u8]) -> Result<Nodata, BadValue>
+    ensures exact { MatchResult result (λ nodata. nodata_of text.now ≡ Some nodata) (λ _. nodata_of text.now ≡ None) }
+{
+    if text == b"204".as_slice() {
+        return Ok(Nodata::Quiet);
+    }
+    if text == b"404".as_slice() {
+        return Ok(Nodata::NotFound);
+    }
+    Err(BadValue)
+}

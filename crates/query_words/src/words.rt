@@ -1,0 +1,211 @@
+//! The engine: reads parameters by a table of rows, one word for each row.
+ghost use Rattle.std.specs.Prelude.{◌≡◌, ◌≤◌, ◌==◌, List, [], length, replicate, None, IfOk, IfErr, OnOk, MatchResult};
+ghost use Rattle.std.specs.List.{list_any};
+ghost use Rattle.channel_globs.specs.PatternText.{IsPatternList};
+ghost use Rattle.query_words.specs.Rows.{rows_of, kind_of};
+ghost use Rattle.query_words.specs.Values.{is_garbled};
+ghost use Rattle.query_words.specs.Parameters.{pairs_of, parameters_of};
+ghost use Rattle.query_words.specs.Words.{IsWord, RefusesWord, CannotRead, list_fault, IsOption, ReadsWord, PutsWord, RefusesPut, HasRead, RefusesWords};
+
+use crate::fault::QueryFault;
+use crate::rows::{Kind, Row, row_of};
+use crate::values::{read_longest, read_minimum, read_nodata, read_quality};
+use channel_globs::{GlobFault, Part, PatternList};
+use dataselect::Nodata;
+use exact_time::Moment;
+use mseed_header::Quality;
+use std::alloc::{AllocError, Global};
+
+/// A value that was read.
+#[derive(Drop)]
+pub enum Word {
+    Time(Moment),
+    Patterns(PatternList),
+    Nodata(Nodata),
+    Quality(Option<Quality>),
+    Micros(u64),
+    Flag(bool),
+    Format,
+}
+
+/// Why a value is refused.
+#[derive(Clone, Copy, Debug, PartialEq, Eq, Drop)]
+pub enum WordFault {
+    OutOfScope,
+    Value,
+    OutOfMemory,
+}
+
+// Whether the text has the character that stands for what isn't UTF-8.
+fn is_garbled(text: &str) -> bool
+    ensures { result ≡ is_garbled text.now }
+{
+    text.chars().any(|c| c == '\u{FFFD}')
+}
+
+fn read_time(text: &[u8]) -> Result<Word, WordFault>
+    ensures word { IfOk result (IsWord Kind.Time text.now) }
+    ensures refused { IfErr result (CannotRead Kind.Time text.now) }
+{
+    match Moment::read(text) {
+        Ok(moment) => Ok(Word::Time(moment)),
+        Err(_) => Err(WordFault::Value),
+    }
+}
+
+// How a fault of a pattern list is a fault of a value.
+fn list_fault(fault: GlobFault) -> WordFault
+    ensures { result ≡ list_fault fault }
+{
+    match fault {
+        GlobFault::OutOfMemory => WordFault::OutOfMemory,
+        _ => WordFault::Value,
+    }
+}
+
+/// Reads a list of patterns.
+pub fn read_list(alloc: Global, part: Part, text: &[u8]) -> Result<PatternList, WordFault>
+    ensures list { IfOk result (IsPatternList part text.now) }
+    ensures refused { IfErr result (CannotRead (Kind.Patterns part) text.now) }
+{
+    match PatternList::read(alloc, text, part) {
+        Ok(list) => Ok(list),
+        Err(fault) => Err(list_fault(fault)),
+    }
+}
+
+fn read_patterns(alloc: Global, part: Part, text: &[u8]) -> Result<Word, WordFault>
+    ensures word { IfOk result (IsWord (Kind.Patterns part) text.now) }
+    ensures refused { IfErr result (CannotRead (Kind.Patterns part) text.now) }
+{
+    match read_list(alloc, part, text) {
+        Ok(list) => Ok(Word::Patterns(list)),
+        Err(fault) => Err(fault),
+    }
+}
+
+fn read_format(text: &[u8]) -> Result<Word, WordFault>
+    ensures word { IfOk result (IsWord Kind.Format text.now) }
+    ensures refused { IfErr result (CannotRead Kind.Format text.now) }
+{
+    if text == b"miniseed".as_slice() {
+        return Ok(Word::Format);
+    }
+    Err(WordFault::Value)
+}
+
+// The value of an option.
+fn read_option(kind: Kind, text: &[u8]) -> Result<Word, WordFault>
+    requires { IsOption kind }
+    ensures word { IfOk result (IsWord kind text.now) }
+    ensures refused { IfErr result (CannotRead kind text.now) }
+{
+    match kind {
+        Kind::Nodata => match read_nodata(text) {
+            Ok(nodata) => Ok(Word::Nodata(nodata)),
+            Err(_) => Err(WordFault::Value),
+        },
+        Kind::Quality => match read_quality(text) {
+            Ok(quality) => Ok(Word::Quality(quality)),
+            Err(_) => Err(WordFault::Value),
+        },
+        Kind::Seconds => match read_minimum(text) {
+            Ok(micros) => Ok(Word::Micros(micros)),
+            Err(_) => Err(WordFault::Value),
+        },
+        _ => match read_longest(text) {
+            Ok(flag) => Ok(Word::Flag(flag)),
+            Err(_) => Err(WordFault::Value),
+        },
+    }
+}
+
+// The value of a kind.
+fn read_text(alloc: Global, kind: Kind, text: &[u8]) -> Result<Word, WordFault>
+    ensures word { IfOk result (IsWord kind text.now) }
+    ensures refused { IfErr result (CannotRead kind text.now) }
+{
+    match kind {
+        Kind::Time => read_time(text),
+        Kind::Patterns(part) => read_patterns(alloc, part, text),
+        Kind::Format => read_format(text),
+        Kind::Nodata | Kind::Quality | Kind::Seconds | Kind::Flag => read_option(kind, text),
+    }
+}
+
+/// Reads a value of a kind.
+pub fn read_word(alloc: Global, kind: Kind, value: &str) -> Result<Word, WordFault>
+    ensures word { IfOk result (ReadsWord kind value.now) }
+    ensures refused { IfErr result (RefusesWord kind value.now) }
+{
+    if is_garbled(value) {
+        return Err(WordFault::Value);
+    }
+    read_text(alloc, kind, value.as_bytes())
+}
+
+/// No word for each of so many names.
+pub fn no_words(alloc: Global, count: usize) -> Result<Vec<Option<Word>>, AllocError>
+    ensures { IfOk result (λ v. v.items ≡ replicate count None) }
+{
+    let mut words = Vec::new(alloc);
+    'fill: for _place in 0..count {
+        words.push(None)?;
+    }
+    Ok(words)
+}
+
+/// Takes one parameter.
+pub fn take_parameter(
+    alloc: Global,
+    table: &[Row],
+    words: &mut Vec<Option<Word>>,
+    number: u64,
+    name: &str,
+    value: &str,
+) -> Result<(), QueryFault>
+    requires { length words.old.items ≡ length table.now }
+    ensures put { OnOk result (PutsWord (rows_of table.now) name.now value.now words.old.items words.new.items) }
+    ensures refused { IfErr result (RefusesPut (rows_of table.now) number name.now value.now words.old.items) }
+{
+    let Some(row) = row_of(table, name.as_bytes()) else {
+        return Err(QueryFault::Unknown(number));
+    };
+    if words[row].is_some() {
+        return Err(QueryFault::Repeated(number));
+    }
+    match read_word(alloc, table[row].kind, value) {
+        Ok(word) => words[row] = Some(word),
+        Err(WordFault::OutOfScope) => return Err(QueryFault::OutOfScope(number)),
+        Err(WordFault::Value) => return Err(QueryFault::Value(number)),
+        Err(WordFault::OutOfMemory) => return Err(QueryFault::OutOfMemory),
+    }
+    Ok(())
+}
+
+/// The words of a query string: the first wrong parameter decides.
+pub fn read_words(
+    alloc: Global,
+    table: &[Row],
+    query: &[u8],
+) -> Result<Vec<Option<Word>>, QueryFault>
+    requires { length (pairs_of query.now) ≤ 1000 }
+    ensures words { IfOk result (λ v. HasRead (rows_of table.now) (parameters_of query.now) (parameters_of query.now) [] v.items) }
+    ensures refused { IfErr result (RefusesWords (rows_of table.now) (parameters_of query.now)) }
+{
+    let mut words = no_words(alloc, table.len())?;
+    let mut number = 1u64;
+    'pairs: for pair in form_urlencoded::parse(alloc, query) {
+        let (name, value) = pair?;
+        take_parameter(
+            alloc,
+            table,
+            &mut words,
+            number,
+            name.as_str(),
+            value.as_str(),
+        )?;
+        number += 1;
+    }
+    Ok(words)
+}
