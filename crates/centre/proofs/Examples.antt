@@ -2,6 +2,7 @@
 use Rattle.std.proofs.Common.{◌≡◌, true, false, refl, sym, subst, codes, [], ◌∷◌, ◌++◌, List, None, Some, pos, arith, Ok, Err, Result, inl, inr, ℕ}
 use Rattle.std.proofs.lemmas.Int.{ints}
 use Rattle.exact_time.proofs.Examples.{new_year, next_year}
+use Rattle.exact_time.specs.Decimals.{Unsigned}
 use Rattle.exact_time.specs.MomentText.{IsMoment}
 use Rattle.exact_time.specs.declared.moment.Moment.{Moment}
 use Rattle.channel_globs.proofs.OneList.{no_list}
@@ -14,6 +15,7 @@ use Rattle.dataselect.specs.declared.query.Nodata.TheVariants.{Quiet}
 use Rattle.dataselect.specs.declared.query.DataQuery.{DataQuery}
 use Rattle.dataselect.specs.declared.query.Selection.{Selection}
 use Rattle.dataselect.specs.Query.{is_selected, is_asked}
+use Rattle.dataselect.specs.Segments.{segment_length}
 use Rattle.centre.specs.Answers.{IsBodyOf, RefusesInput, IsAnswer}
 use Rattle.centre.specs.Commands.{SelectWords, select, help, version, is_position, command_of}
 use Rattle.centre.specs.Memory.{bytes_left}
@@ -22,8 +24,9 @@ use Rattle.centre.specs.Status.{status_of, text_of}
 use Rattle.centre.specs.Streams.{Grew, Puts}
 use Rattle.centre.specs.Table.{World, Stream, Tells, IsSelected, IsRun}
 use Rattle.centre.specs.Transfer.{Had, WritesPart}
-use Rattle.centre.specs.Words.{IsSelectQuery, RefusesWords}
-use Rattle.centre.specs.declared.ending.Word.TheVariants.{Network as NetworkWord, Station as StationWord, Location as LocationWord, Channel as ChannelWord, Start as StartWord, End as EndWord}
+use Rattle.centre.specs.Words.{AreOptions, IsSelectQuery, RefusesWords, time_words, option_words}
+use Rattle.centre.proofs.OneQuery.{all_read}
+use Rattle.centre.specs.declared.ending.Word.TheVariants.{Network as NetworkWord, Station as StationWord, Location as LocationWord, Channel as ChannelWord}
 use Rattle.centre.specs.declared.ending.Refusal.{Refusal}
 use Rattle.centre.specs.declared.ending.Refusal.TheVariants.{UnknownCommand, Value, Order, Record}
 use Rattle.centre.specs.declared.ending.Stop.TheVariants.{Refused, ReadFault}
@@ -66,6 +69,10 @@ six_words = record {
   channel = codes "BH?";
   start = codes "2024-01-01";
   end = codes "2024-01-01";
+  quality = codes "B";
+  minimum = codes "0";
+  longest = codes "false";
+  limit = 67_108_864;
 }
 
 seven_words : command_of (codes "select" ∷ codes "IU" ∷ codes "AN*" ∷ codes ",00" ∷ codes "BH?" ∷ codes "2024-01-01" ∷ codes "2024-01-01" ∷ []) ≡ Some (select six_words)
@@ -74,7 +81,40 @@ seven_words = refl
 hyphens : command_of (codes "select" ∷ codes "IU" ∷ codes "AN*" ∷ codes "--" ∷ codes "BH?" ∷ codes "2024-01-01" ∷ codes "2024-01-01" ∷ []) ≡ None
 hyphens = refl
 
+-- options in any order, each once
+abbrev with_options : List (List ℕ) → List (List ℕ)
+with_options options = codes "select" ∷ codes "IU" ∷ codes "AN*" ∷ codes ",00" ∷ codes "BH?" ∷ codes "2024-01-01" ∷ codes "2024-01-01" ∷ options
+
+options : command_of (with_options (codes "--max-bytes" ∷ codes "511" ∷ codes "--minimum" ∷ codes "-1" ∷ [])) ≡ Some (select (record six_words { minimum = codes "-1"; limit = 511 }))
+options = refl
+
+twice : command_of (with_options (codes "--quality" ∷ codes "R" ∷ codes "--quality" ∷ codes "R" ∷ [])) ≡ None
+twice = refl
+
+no_value : command_of (with_options (codes "--quality" ∷ [])) ≡ None
+no_value = refl
+
+limit_of_0 : command_of (with_options (codes "--max-bytes" ∷ codes "0" ∷ [])) ≡ None
+limit_of_0 = refl
+
 -- the query of some words
+any_options : (w : SelectWords) → w.quality ≡ codes "B" → w.minimum ≡ codes "0" → w.longest ≡ codes "false" → AreOptions w None 0 false
+any_options w quality minimum longest = record {
+  quality_is = rw quality refl;
+  minimum_is = rw minimum (record {
+    decimal = record {
+      sign = Unsigned;
+      whole = codes "0";
+      decimals = [];
+      form = record { text_is = refl; some = omega arith; whole_digits = refl; decimal_digits = refl; few = omega arith };
+      short = omega arith;
+      value = refl;
+    };
+    small = omega arith;
+  });
+  longest_is = rw longest refl;
+}
+
 new_year_day : IsMoment (codes "2024-01-01") (pos 1_704_067_200_000_000)
 new_year_day = (
   record { year = 2024; month = 1; day = 1; hour = 0; minute = 0; second = 0; micros = 0 },
@@ -115,7 +155,9 @@ asked = record {
     channel_is = record { few = omega arith; each = refl };
   };
   window = record { from = day; to = day; start_is = refl; end_is = refl; from_is = new_year_day; to_is = new_year_day; order = omega (arith, ints) };
-  simple = record { only = refl; quality = refl; minimum = refl; longest = refl; nodata = refl };
+  only = refl;
+  options = any_options _ refl refl refl;
+  nodata = refl;
 }
 
 read_fault : text_of ReadFault ≡ codes "centre: read fault\n"
@@ -167,14 +209,16 @@ asked_all = record {
     channel_is = record { few = omega arith; each = refl };
   };
   window = record { from = day; to = new_year_2025; start_is = refl; end_is = refl; from_is = new_year_day; to_is = next_year_day; order = omega (arith, ints) };
-  simple = record { only = refl; quality = refl; minimum = refl; longest = refl; nodata = refl };
+  only = refl;
+  options = any_options _ refl refl refl;
+  nodata = refl;
 }
 
 -- the first word that can't be read, and times in the wrong order
 bad_station : RefusesWords (record six_words { station = codes "A-N" }) (Value StationWord)
 bad_station = record {
   before = NetworkWord ∷ [];
-  after = LocationWord ∷ ChannelWord ∷ StartWord ∷ EndWord ∷ [];
+  after = LocationWord ∷ ChannelWord ∷ time_words ++ option_words;
   split = refl;
   all = ((codes "IU" ∷ [], record { few = omega arith; each = refl }), tt);
   lacks = λ h.
@@ -184,12 +228,13 @@ bad_station = record {
 
 backwards : RefusesWords (record six_words { start = codes "2025-01-01" }) Order
 backwards = record {
-  lists = record {
-    network_is = (codes "IU" ∷ [], record { few = omega arith; each = refl });
-    station_is = (codes "AN*" ∷ [], record { few = omega arith; each = refl });
-    location_is = (codes "  " ∷ codes "00" ∷ [], record { few = omega arith; each = refl });
-    channel_is = (codes "BH?" ∷ [], record { few = omega arith; each = refl });
-  };
+  all = all_read (record six_words { start = codes "2025-01-01" }) broadband new_year_2025 day None 0 false
+      (record {
+        network_is = record { few = omega arith; each = refl };
+        station_is = record { few = omega arith; each = refl };
+        location_is = record { few = omega arith; each = refl };
+        channel_is = record { few = omega arith; each = refl };
+      }) next_year_day new_year_day (any_options _ refl refl refl);
   from = pos 1_735_689_600_000_000;
   to = pos 1_704_067_200_000_000;
   from_is = next_year_day;
@@ -197,11 +242,11 @@ backwards = record {
   order = omega (arith, ints);
 }
 
-body : IsBodyOf all_year anmo_image anmo_image
-unfolding is_selected is_asked
+body : IsBodyOf all_year 67_108_864 anmo_image anmo_image
+unfolding is_selected is_asked segment_length
 body = record { within = omega arith; rows = anmo_row ∷ []; records = row; some = some_left (0 ∷ []) refl; body_is = refl; fits = omega arith }
 
-refused : RefusesInput all_year (anmo_image ++ codes "000002") (Record 512 Short)
+refused : RefusesInput all_year 67_108_864 (anmo_image ++ codes "000002") (Record 512 Short)
 refused = record { within = omega arith; first = second }
 
 answer : IsAnswer (Some (select words)) anmo_image (Ok anmo_image)

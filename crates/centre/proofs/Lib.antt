@@ -1,3 +1,4 @@
+pub mod Arguments
 pub mod Examples
 pub mod Grows
 pub mod Inputs

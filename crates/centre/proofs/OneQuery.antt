@@ -1,6 +1,5 @@
 -- The words of `select` spell one query, or are refused in one way.
-use Rattle.std.proofs.Common.{◌≡◌, ℕ, List, [], ◌∷◌, Some, refl, sym, ap, ◌∙◌, arith}
-use Rattle.std.specs.List.{AllByRecursion}
+use Rattle.std.proofs.Common.{◌≡◌, ℕ, Bool, List, [], ◌∷◌, ◌++◌, Option, Some, refl, sym, ap, ◌∙◌, arith}
 use Rattle.std.proofs.lemmas.Int.{ints}
 use Rattle.list_laws.proofs.Refusals.{none_without, one_without}
 use Rattle.exact_time.specs.MomentText.{IsMoment}
@@ -8,12 +7,15 @@ use Rattle.exact_time.specs.declared.moment.Moment.{Moment}
 use Rattle.exact_time.proofs.Spellings.{one_moment}
 use Rattle.channel_globs.proofs.OneList.{one_list}
 use Rattle.channel_globs.specs.declared.nslc.Part.TheVariants.{Network, Station, Location, Channel}
+use Rattle.mseed_header.specs.declared.quality.Quality.{Quality}
 use Rattle.dataselect.specs.declared.query.DataQuery.{DataQuery}
 use Rattle.dataselect.specs.declared.query.Selection.{Selection}
 use Rattle.centre.specs.declared.ending.Refusal.{Refusal}
 use Rattle.centre.specs.declared.ending.Refusal.TheVariants.{UnknownCommand, Value, Order, Record, NoData, TooLarge, InputTooLong}
 use Rattle.centre.specs.Commands.{SelectWords}
-use Rattle.centre.specs.Words.{CanRead, tested_words, IsNamed, IsWindow, IsSelectQuery, IsBackwards, RefusesWords}
+use Rattle.query_words.specs.Values.{quality_of, flag_of}
+use Rattle.query_words.proofs.Minimums.{one_minimum}
+use Rattle.centre.specs.Words.{CanRead, CanReadAll, time_words, option_words, tested_words, IsNamed, IsWindow, AreOptions, IsSelectQuery, IsBackwards, RefusesWords}
 
 one_time : (text : List ℕ) (a b : Moment) → IsMoment text a.micros → IsMoment text b.micros → a ≡ b
 one_time text a b h k = let e = one_moment text a.micros b.micros h k in λ i. record { micros = e i }
@@ -28,32 +30,30 @@ one_selection w s t h p k q =
     let end : s.end ≡ t.end = p.end_is ∙ ap Some (one_time w.end p.to q.to p.to_is q.to_is) ∙ sym q.end_is in
     λ i. record { network = network i; station = station i; location = location i; channel = channel i; start = start i; end = end i }
 
+one_some : {X : Type 0} (o : Option X) (x y : X) → o ≡ Some x → o ≡ Some y → x ≡ y
+one_some o x y h k = cc
+
 pub one_query : (w : SelectWords) (q r : DataQuery) → IsSelectQuery w q → IsSelectQuery w r → q ≡ r
 one_query w q r h k =
     let selection = one_selection w h.selection k.selection h.named h.window k.named k.window in
-    let selections : q.selections ≡ r.selections = h.simple.only ∙ ap (λ (s : Selection). s ∷ []) selection ∙ sym k.simple.only in
-    let quality : q.quality ≡ r.quality = h.simple.quality ∙ sym k.simple.quality in
-    let minimum : q.minimum ≡ r.minimum = h.simple.minimum ∙ sym k.simple.minimum in
-    let longest : q.longest ≡ r.longest = h.simple.longest ∙ sym k.simple.longest in
-    let nodata : q.nodata ≡ r.nodata = h.simple.nodata ∙ sym k.simple.nodata in
+    let selections : q.selections ≡ r.selections = h.only ∙ ap (λ (s : Selection). s ∷ []) selection ∙ sym k.only in
+    let quality : q.quality ≡ r.quality = one_some (quality_of w.quality) q.quality r.quality h.options.quality_is k.options.quality_is in
+    let minimum : q.minimum ≡ r.minimum = one_minimum w.minimum q.minimum r.minimum h.options.minimum_is k.options.minimum_is in
+    let longest : q.longest ≡ r.longest = one_some (flag_of w.longest) q.longest r.longest h.options.longest_is k.options.longest_is in
+    let nodata : q.nodata ≡ r.nodata = h.nodata ∙ sym k.nodata in
     λ i. record { selections = selections i; quality = quality i; minimum = minimum i; longest = longest i; nodata = nodata i }
 
--- the words of a query can all be read, and so can those whose times are backwards
-query_reads : (w : SelectWords) (q : DataQuery) → IsSelectQuery w q → AllByRecursion (CanRead w) tested_words
-query_reads w q h = (
-  (h.selection.network, h.named.network_is),
-  (
-    (h.selection.station, h.named.station_is),
-    (
-      (h.selection.location, h.named.location_is),
-      ((h.selection.channel, h.named.channel_is), ((h.window.from.micros, h.window.from_is), ((h.window.to.micros, h.window.to_is), tt))),
-    ),
-  ),
-)
+-- every word can be read where there are its values
+pub all_read : (w : SelectWords) (s : Selection) (from to : Moment) (quality : Option Quality) (minimum : ℕ) (longest : Bool) → IsNamed w s → IsMoment w.start from.micros → IsMoment w.end to.micros
+    → AreOptions w quality minimum longest → CanReadAll w tested_words
+all_read w s from to quality minimum longest h from_is to_is o =
+    let options : CanReadAll w option_words = ((quality, o.quality_is), ((minimum, o.minimum_is), ((longest, o.longest_is), tt))) in
+    let times : CanReadAll w (time_words ++ option_words) = ((from.micros, from_is), ((to.micros, to_is), options)) in
+    ((s.network, h.network_is), ((s.station, h.station_is), ((s.location, h.location_is), ((s.channel, h.channel_is), times))))
 
-backwards_reads : (w : SelectWords) → IsBackwards w → AllByRecursion (CanRead w) tested_words
-backwards_reads w h =
-    (h.lists.network_is, (h.lists.station_is, (h.lists.location_is, (h.lists.channel_is, ((h.from, h.from_is), ((h.to, h.to_is), tt))))))
+query_reads : (w : SelectWords) (q : DataQuery) → IsSelectQuery w q → CanReadAll w tested_words
+query_reads w q h =
+    all_read w h.selection h.window.from h.window.to q.quality q.minimum q.longest h.named h.window.from_is h.window.to_is h.options
 
 not_backwards : (w : SelectWords) (q : DataQuery) → IsSelectQuery w q → IsBackwards w → ⊥
 not_backwards w q h k =
@@ -73,8 +73,8 @@ no_refusal w q InputTooLong h k = k
 
 pub one_refusal : (w : SelectWords) (r s : Refusal) → RefusesWords w r → RefusesWords w s → r ≡ s
 one_refusal w (Value a) (Value b) h k = ap Value (one_without (CanRead w) tested_words a b h k)
-one_refusal w (Value a) Order h k = absurd (none_without (CanRead w) tested_words a (backwards_reads w k) h)
-one_refusal w Order (Value b) h k = absurd (none_without (CanRead w) tested_words b (backwards_reads w h) k)
+one_refusal w (Value a) Order h k = absurd (none_without (CanRead w) tested_words a k.all h)
+one_refusal w Order (Value b) h k = absurd (none_without (CanRead w) tested_words b h.all k)
 one_refusal w Order Order h k = refl
 one_refusal w r UnknownCommand h k = absurd k
 one_refusal w r (Record at fault) h k = absurd k

@@ -9,7 +9,7 @@ use Rattle.dataselect.specs.declared.answers.DataRefusal.{DataRefusal}
 use Rattle.dataselect.specs.declared.answers.DataRefusal.TheVariants.{Empty, TooLarge as TooMuch, OutOfMemory as NoMemory}
 use Rattle.dataselect.specs.Rows.{held_rows}
 use Rattle.dataselect.specs.DataBody.{answer_of, body_or_empty, images_at, RefusesAs}
-use Rattle.centre.specs.declared.TheConstants.{MAX_INPUT, MAX_BYTES}
+use Rattle.centre.specs.declared.TheConstants.{MAX_INPUT}
 use Rattle.centre.specs.declared.ending.Refusal.TheVariants.{UnknownCommand, Value, Order, Record, NoData, TooLarge, InputTooLong}
 use Rattle.centre.specs.declared.ending.Stop.{Stop}
 use Rattle.centre.specs.declared.ending.Stop.TheVariants.{Refused, ReadFault, WriteFault, OutOfMemory}
@@ -46,7 +46,7 @@ read_row w query before after (Refused (TooLarge bytes limit)) asked kept why = 
 
 -- the input is refused
 pub input_row : (w : SelectWords) (query : DataQuery) (input : List ℕ) (before after : World) (stop : Stop) → IsSelectQuery w query → Had before.source.bytes input → after.sink ≡ before.sink
-    → StopsWith (RefusesInput query input) stop → SelectRow w before after (Err stop)
+    → StopsWith (RefusesInput query w.limit input) stop → SelectRow w before after (Err stop)
 input_row w query input before after (Refused refusal) asked had kept why =
     inr (record { input = input; query = query; had = had; asked = asked; why = why; kept = kept })
 input_row w query input before after OutOfMemory asked had kept why = kept
@@ -139,31 +139,31 @@ too_many max n rows (p ∷ ps) e =
     let more = above max (length (images_at rows (p ∷ ps))) h.0 in
     (λ none. cc, h.1, omega (arith, h.1, more))
 
-pub body_row : (query : DataQuery) (input body : List ℕ) (rows : List Row) → length input ≤ MAX_INPUT → AreRecords input 0 epoch rows → answer_of all_seen query MAX_BYTES (held_rows rows) ≡ Ok body → IsBodyOf query input body
-body_row query input body rows within records e =
-    let h = body_is MAX_BYTES (held_rows rows) (places_for query rows) body e in
+pub body_row : (query : DataQuery) (limit : ℕ) (input body : List ℕ) (rows : List Row) → length input ≤ MAX_INPUT → AreRecords input 0 epoch rows → answer_of all_seen query limit (held_rows rows) ≡ Ok body → IsBodyOf query limit input body
+body_row query limit input body rows within records e =
+    let h = body_is limit (held_rows rows) (places_for query rows) body e in
     record { within = within; rows = rows; records = records; some = h.0; body_is = h.1; fits = h.2 }
 
-pub data_row : (query : DataQuery) (input : List ℕ) (rows : List Row) (refusal : DataRefusal) → length input ≤ MAX_INPUT → AreRecords input 0 epoch rows
-    → RefusesAs (answer_of all_seen query MAX_BYTES (held_rows rows)) refusal → StopsWith (RefusesInput query input) (stop_for_data refusal)
-data_row query input rows Empty within records e = record { within = within; rows = rows; records = records; none = none_are MAX_BYTES (held_rows rows) (places_for query rows) e }
-data_row query input rows (TooMuch n) within records e =
-    let h = too_many MAX_BYTES n (held_rows rows) (places_for query rows) e in
+pub data_row : (query : DataQuery) (limit : ℕ) (input : List ℕ) (rows : List Row) (refusal : DataRefusal) → length input ≤ MAX_INPUT → AreRecords input 0 epoch rows
+    → RefusesAs (answer_of all_seen query limit (held_rows rows)) refusal → StopsWith (RefusesInput query limit input) (stop_for_data limit refusal)
+data_row query limit input rows Empty within records e = record { within = within; rows = rows; records = records; none = none_are limit (held_rows rows) (places_for query rows) e }
+data_row query limit input rows (TooMuch n) within records e =
+    let h = too_many limit n (held_rows rows) (places_for query rows) e in
     record { within = within; rows = rows; records = records; some = h.0; bytes_is = h.1; limit_is = refl; above = h.2 }
-data_row query input rows NoMemory within records e = tt
+data_row query limit input rows NoMemory within records e = tt
 
 -- records that are refused
-pub records_row : (query : DataQuery) (input : List ℕ) (stop : Stop) → length input ≤ MAX_INPUT → StopsWith (RefusesRecords input) stop → StopsWith (RefusesInput query input) stop
-records_row query input (Refused (Record at fault)) within why = record { within = within; first = why }
-records_row query input (Refused UnknownCommand) within why = absurd why
-records_row query input (Refused (Value word)) within why = absurd why
-records_row query input (Refused Order) within why = absurd why
-records_row query input (Refused NoData) within why = absurd why
-records_row query input (Refused (TooLarge bytes limit)) within why = absurd why
-records_row query input (Refused InputTooLong) within why = absurd why
-records_row query input OutOfMemory within why = tt
-records_row query input ReadFault within why = absurd why
-records_row query input WriteFault within why = absurd why
+pub records_row : (query : DataQuery) (limit : ℕ) (input : List ℕ) (stop : Stop) → length input ≤ MAX_INPUT → StopsWith (RefusesRecords input) stop → StopsWith (RefusesInput query limit input) stop
+records_row query limit input (Refused (Record at fault)) within why = record { within = within; first = why }
+records_row query limit input (Refused UnknownCommand) within why = absurd why
+records_row query limit input (Refused (Value word)) within why = absurd why
+records_row query limit input (Refused Order) within why = absurd why
+records_row query limit input (Refused NoData) within why = absurd why
+records_row query limit input (Refused (TooLarge bytes told)) within why = absurd why
+records_row query limit input (Refused InputTooLong) within why = absurd why
+records_row query limit input OutOfMemory within why = tt
+records_row query limit input ReadFault within why = absurd why
+records_row query limit input WriteFault within why = absurd why
 
 -- nothing was told
 pub tells_nothing : (s : Stream) → Tells s s []

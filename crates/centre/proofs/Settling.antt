@@ -56,7 +56,7 @@ select_ended w input before after (Ok done) e row =
 select_ended w input before after (Err (Refused refusal)) e (inl row) = inr (record { answer = Err refusal; is = inl row.why; status_is = refl; text_is = refl })
 select_ended w input before after (Err (Refused refusal)) e (inr row) =
     let same : row.input ≡ input = sym (had_that before.source.bytes input row.input e row.had) in
-    let P : List ℕ → Type 0 = λ xs. RefusesInput row.query xs refusal in
+    let P : List ℕ → Type 0 = λ xs. RefusesInput row.query w.limit xs refusal in
     inr (record { answer = Err refusal; is = inr (row.query, row.asked, subst P same row.why); status_is = refl; text_is = refl })
 select_ended w input before after (Err ReadFault) e row = inl (inl refl)
 select_ended w input before after (Err WriteFault) e row = inl (inr (inl refl))

@@ -6,9 +6,9 @@ use Rattle.mseed_header.specs.declared.row.Row.{Row}
 use Rattle.mseed_header.specs.Records.{AreRecords, IsFirstBad}
 use Rattle.dataselect.specs.declared.query.DataQuery.{DataQuery}
 use Rattle.dataselect.specs.Rows.{held_rows}
-use Rattle.dataselect.specs.Chosen.{chosen_places}
 use Rattle.dataselect.specs.DataBody.{data_body}
-use Rattle.centre.specs.declared.TheConstants.{MAX_INPUT, MAX_BYTES}
+use Rattle.dataselect.specs.Picked.{picked_places}
+use Rattle.centre.specs.declared.TheConstants.{MAX_INPUT}
 use Rattle.centre.specs.declared.help.TheConstants.{HELP, VERSION}
 use Rattle.centre.specs.Commands.{SelectWords, Command, select, help, version}
 use Rattle.centre.specs.Words.{IsSelectQuery, RefusesWords}
@@ -26,39 +26,39 @@ epoch = record { micros = pos 0 }
 abbrev pub all_seen : Row → Bool
 all_seen row = true
 
--- the places of the rows that the query chooses, and their bytes: over the rows without those whose
+-- the places of the rows that the query picks, and their bytes: over the rows without those whose
 -- bytes equal an earlier one's
 abbrev pub places_for : DataQuery → List Row → List ℕ
-places_for query rows = chosen_places all_seen query (held_rows rows)
+places_for query rows = picked_places all_seen query (held_rows rows)
 
 abbrev pub body_for : DataQuery → List Row → List ℕ
 body_for query rows = data_body all_seen query (held_rows rows)
 
--- The input is records end to end, and this is the data body of its rows. The rows have entry 0
--- and the moment 0, and some is chosen.
-pub record IsBodyOf (query : DataQuery) (input body : List ℕ) : Type 0 where
+-- The input is records end to end, and this is the data body of its rows, within the limit. The rows have
+-- entry 0 and the moment 0, and some is picked.
+pub record IsBodyOf (query : DataQuery) (limit : ℕ) (input body : List ℕ) : Type 0 where
   pub within : length input ≤ MAX_INPUT
   pub rows : List Row
   pub records : AreRecords input 0 epoch rows
   pub some : places_for query rows ≢ []
   pub body_is : body ≡ body_for query rows
-  pub fits : length body ≤ MAX_BYTES
+  pub fits : length body ≤ limit
 
--- the input is records end to end, and none is chosen
+-- the input is records end to end, and none is picked
 pub record HasNoData (query : DataQuery) (input : List ℕ) : Type 0 where
   pub within : length input ≤ MAX_INPUT
   pub rows : List Row
   pub records : AreRecords input 0 epoch rows
   pub none : places_for query rows ≡ []
 
--- the input is records end to end, and the chosen ones have so many bytes, more than the limit
-pub record HasTooMuch (query : DataQuery) (input : List ℕ) (bytes limit : ℕ) : Type 0 where
+-- the input is records end to end, and the picked ones have so many bytes, more than the limit
+pub record HasTooMuch (query : DataQuery) (limit : ℕ) (input : List ℕ) (bytes told : ℕ) : Type 0 where
   pub within : length input ≤ MAX_INPUT
   pub rows : List Row
   pub records : AreRecords input 0 epoch rows
   pub some : places_for query rows ≢ []
   pub bytes_is : bytes ≡ length (body_for query rows)
-  pub limit_is : limit ≡ MAX_BYTES
+  pub limit_is : told ≡ limit
   pub above : limit < bytes
 
 -- the input isn't too long, and the record at this offset is the first that is refused
@@ -72,24 +72,24 @@ RefusesRecords input (Record at fault) = IsFirstBad input at fault
 RefusesRecords input _ = ⊥
 
 -- how a refusal of an answer stops a run
-abbrev pub stop_for_data : DataRefusal → Stop
-stop_for_data Empty = Refused NoData
-stop_for_data (TooMuch bytes) = Refused (TooLarge bytes MAX_BYTES)
-stop_for_data NoMemory = OutOfMemory
+abbrev pub stop_for_data : ℕ → DataRefusal → Stop
+stop_for_data limit Empty = Refused NoData
+stop_for_data limit (TooMuch bytes) = Refused (TooLarge bytes limit)
+stop_for_data limit NoMemory = OutOfMemory
 
--- why an input has no body for a query
-abbrev pub RefusesInput : DataQuery → List ℕ → Refusal → Type 0
-RefusesInput query input (Record at fault) = HasBadRecord input at fault
-RefusesInput query input NoData = HasNoData query input
-RefusesInput query input (TooLarge bytes limit) = HasTooMuch query input bytes limit
-RefusesInput query input InputTooLong = MAX_INPUT < length input
-RefusesInput query input _ = ⊥
+-- why an input has no body for a query within a limit
+abbrev pub RefusesInput : DataQuery → ℕ → List ℕ → Refusal → Type 0
+RefusesInput query limit input (Record at fault) = HasBadRecord input at fault
+RefusesInput query limit input NoData = HasNoData query input
+RefusesInput query limit input (TooLarge bytes told) = HasTooMuch query limit input bytes told
+RefusesInput query limit input InputTooLong = MAX_INPUT < length input
+RefusesInput query limit input _ = ⊥
 
 -- the words of `select` and the input give this body, or are refused: the words before the input
 abbrev pub IsSelectAnswer : SelectWords → List ℕ → Result (List ℕ) Refusal → Type 0
-IsSelectAnswer w input (Ok body) = (query : DataQuery) × IsSelectQuery w query × IsBodyOf query input body
+IsSelectAnswer w input (Ok body) = (query : DataQuery) × IsSelectQuery w query × IsBodyOf query w.limit input body
 IsSelectAnswer w input (Err refusal) =
-    RefusesWords w refusal ⊎ ((query : DataQuery) × IsSelectQuery w query × RefusesInput query input refusal)
+    RefusesWords w refusal ⊎ ((query : DataQuery) × IsSelectQuery w query × RefusesInput query w.limit input refusal)
 
 -- What the words and the input determine, by cases on the command: what is written, or why nothing is.
 abbrev pub IsAnswer : Option Command → List ℕ → Result (List ℕ) Refusal → Type 0

@@ -1,7 +1,7 @@
 pub mod Answers
+pub mod Arguments
 pub mod Commands
 pub mod Memory
-pub mod Positions
 pub mod Settled
 pub mod Status
 pub mod Streams

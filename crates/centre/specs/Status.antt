@@ -2,9 +2,9 @@
 use Rattle.std.specs.Prelude.{ℕ, List, [], ◌++◌, codes, Result, Ok, Err}
 use Rattle.std.specs.Fmt.{decimal}
 use Rattle.mseed_header.specs.declared.header.RecordFault.{RecordFault}
-use Rattle.mseed_header.specs.declared.header.RecordFault.TheVariants.{Short, Year, Time, Quality, Code, Chain, Length, NoBlockette1000, Reach}
+use Rattle.mseed_header.specs.declared.header.RecordFault.TheVariants.{Short, Year, Time, Quality as BadQuality, Code, Chain, Length, NoBlockette1000, Reach}
 use Rattle.centre.specs.declared.ending.Word.{Word}
-use Rattle.centre.specs.declared.ending.Word.TheVariants.{Network, Station, Location, Channel, Start, End}
+use Rattle.centre.specs.declared.ending.Word.TheVariants.{Network, Station, Location, Channel, Start, End, Quality, Minimum, Longest}
 use Rattle.centre.specs.declared.ending.Refusal.{Refusal}
 use Rattle.centre.specs.declared.ending.Refusal.TheVariants.{UnknownCommand, Value, Order, Record, NoData, TooLarge, InputTooLong}
 use Rattle.centre.specs.declared.ending.Stop.{Stop}
@@ -37,12 +37,15 @@ name_of_word Location = codes "LOC"
 name_of_word Channel = codes "CHA"
 name_of_word Start = codes "START"
 name_of_word End = codes "END"
+name_of_word Quality = codes "QUALITY"
+name_of_word Minimum = codes "MINIMUM"
+name_of_word Longest = codes "LONGEST"
 
 abbrev pub name_of_fault : RecordFault → List ℕ
 name_of_fault Short = codes "Short"
 name_of_fault Year = codes "Year"
 name_of_fault Time = codes "Time"
-name_of_fault Quality = codes "Quality"
+name_of_fault BadQuality = codes "Quality"
 name_of_fault Code = codes "Code"
 name_of_fault Chain = codes "Chain"
 name_of_fault Length = codes "Length"

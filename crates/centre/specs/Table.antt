@@ -52,7 +52,7 @@ pub record IsRefusedByInput (w : SelectWords) (before after : World) (refusal : 
   pub query : DataQuery
   pub had : Had before.source.bytes input
   pub asked : IsSelectQuery w query
-  pub why : RefusesInput query input refusal
+  pub why : RefusesInput query w.limit input refusal
   pub kept : after.sink ≡ before.sink
 
 -- reading stopped at a fault of the source: nothing is written

@@ -1,18 +1,21 @@
 -- What the words of `select` ask for.
-use Rattle.std.specs.Prelude.{◌≡◌, ◌≤ℤ◌, ◌<ℤ◌, ℤ, false, List, [], ◌∷◌, Some, None, ⊤}
+use Rattle.std.specs.Prelude.{◌≡◌, ◌≤ℤ◌, ◌<ℤ◌, ℕ, ℤ, Bool, List, [], ◌∷◌, ◌++◌, Option, Some, ⊤}
+use Rattle.std.specs.List.{AllByRecursion}
 use Rattle.list_laws.specs.Faults.{IsFirstWithout}
 use Rattle.exact_time.specs.MomentText.{IsMoment}
 use Rattle.exact_time.specs.declared.moment.Moment.{Moment}
 use Rattle.channel_globs.specs.PatternText.{IsPatternList}
 use Rattle.channel_globs.specs.declared.nslc.Part.{Part}
 use Rattle.channel_globs.specs.declared.nslc.Part.TheVariants.{Network, Station, Location, Channel}
+use Rattle.mseed_header.specs.declared.quality.Quality.{Quality}
 use Rattle.dataselect.specs.declared.query.DataQuery.{DataQuery}
 use Rattle.dataselect.specs.declared.query.Selection.{Selection}
 use Rattle.dataselect.specs.declared.query.Nodata.TheVariants.{Quiet}
+use Rattle.query_words.specs.Values.{quality_of, flag_of, IsMinimum}
 use Rattle.channel_globs.specs.declared.patterns.GlobFault.{GlobFault}
 use Rattle.channel_globs.specs.declared.patterns.GlobFault.TheVariants.{TooMany, Character, Length, OutOfMemory as NoMemory}
 use Rattle.centre.specs.declared.ending.Word.{Word}
-use Rattle.centre.specs.declared.ending.Word.TheVariants.{Network as NetworkWord, Station as StationWord, Location as LocationWord, Channel as ChannelWord, Start as StartWord, End as EndWord}
+use Rattle.centre.specs.declared.ending.Word.TheVariants.{Network as NetworkWord, Station as StationWord, Location as LocationWord, Channel as ChannelWord, Start as StartWord, End as EndWord, Quality as QualityWord, Minimum as MinimumWord, Longest as LongestWord}
 use Rattle.centre.specs.declared.ending.Refusal.{Refusal}
 use Rattle.centre.specs.declared.ending.Refusal.TheVariants.{Value, Order}
 use Rattle.centre.specs.declared.ending.Stop.{Stop}
@@ -36,34 +39,36 @@ pub record IsWindow (w : SelectWords) (s : Selection) : Type 0 where
   pub to_is : IsMoment w.end to.micros
   pub order : from.micros ≤ℤ to.micros
 
--- the query has this one selection, and asks for any quality and any length
-pub record IsSimple (selection : Selection) (query : DataQuery) : Type 0 where
-  pub only : query.selections ≡ selection ∷ []
-  pub quality : query.quality ≡ None
-  pub minimum : query.minimum ≡ 0
-  pub longest : query.longest ≡ false
-  pub nodata : query.nodata ≡ Quiet
+-- the quality, the least length of a segment, and whether the longest alone are asked for
+pub record AreOptions (w : SelectWords) (quality : Option Quality) (minimum : ℕ) (longest : Bool) : Type 0 where
+  pub quality_is : quality_of w.quality ≡ Some quality
+  pub minimum_is : IsMinimum w.minimum minimum
+  pub longest_is : flag_of w.longest ≡ Some longest
 
--- the query has the one selection of these words
+-- the query has the one selection of these words, and their options
 pub record IsSelectQuery (w : SelectWords) (query : DataQuery) : Type 0 where
   pub selection : Selection
   pub named : IsNamed w selection
   pub window : IsWindow w selection
-  pub simple : IsSimple selection query
+  pub only : query.selections ≡ selection ∷ []
+  pub options : AreOptions w query.quality query.minimum query.longest
+  pub nodata : query.nodata ≡ Quiet
 
--- a word spells a pattern list, or a moment
+-- a word spells a pattern list, a moment, or the value of an option
 abbrev pub IsList : Part → Text → Type 0
 IsList part word = (list : List Text) × IsPatternList part word list
 
 abbrev pub IsTime : Text → Type 0
 IsTime word = (micros : ℤ) × IsMoment word micros
 
--- each code word is a pattern list
-pub record AreLists (w : SelectWords) : Type 0 where
-  pub network_is : IsList Network w.network
-  pub station_is : IsList Station w.station
-  pub location_is : IsList Location w.location
-  pub channel_is : IsList Channel w.channel
+abbrev pub IsQuality : Text → Type 0
+IsQuality word = (quality : Option Quality) × (quality_of word ≡ Some quality)
+
+abbrev pub IsLength : Text → Type 0
+IsLength word = (micros : ℕ) × IsMinimum word micros
+
+abbrev pub IsFlag : Text → Type 0
+IsFlag word = (flag : Bool) × (flag_of word ≡ Some flag)
 
 -- the word can be read
 abbrev pub CanRead : SelectWords → Word → Type 0
@@ -73,14 +78,30 @@ CanRead w LocationWord = IsList Location w.location
 CanRead w ChannelWord = IsList Channel w.channel
 CanRead w StartWord = IsTime w.start
 CanRead w EndWord = IsTime w.end
+CanRead w QualityWord = IsQuality w.quality
+CanRead w MinimumWord = IsLength w.minimum
+CanRead w LongestWord = IsFlag w.longest
 
 -- the words in the order in which they are tested
+abbrev pub code_words : List Word
+code_words = NetworkWord ∷ StationWord ∷ LocationWord ∷ ChannelWord ∷ []
+
+abbrev pub time_words : List Word
+time_words = StartWord ∷ EndWord ∷ []
+
+abbrev pub option_words : List Word
+option_words = QualityWord ∷ MinimumWord ∷ LongestWord ∷ []
+
 abbrev pub tested_words : List Word
-tested_words = NetworkWord ∷ StationWord ∷ LocationWord ∷ ChannelWord ∷ StartWord ∷ EndWord ∷ []
+tested_words = code_words ++ time_words ++ option_words
+
+-- each of these words can be read
+abbrev pub CanReadAll : SelectWords → List Word → Type 0
+CanReadAll w words = AllByRecursion (CanRead w) words
 
 -- every word can be read, and the start is after the end
 pub record IsBackwards (w : SelectWords) : Type 0 where
-  pub lists : AreLists w
+  pub all : CanReadAll w tested_words
   pub from : ℤ
   pub to : ℤ
   pub from_is : IsMoment w.start from

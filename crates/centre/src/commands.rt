@@ -2,24 +2,33 @@
 ghost use Rattle.std.specs.Prelude.{◌≡◌, ◌↔◌, map, string_bytes, codes, IsTrue};
 ghost use Rattle.std.specs.List.{list_all};
 ghost use Rattle.std.specs.Option.{option_map};
-ghost use Rattle.centre.specs.Commands.{is_position, select_words_of, lone_command_of, command_of};
-ghost use Rattle.centre.specs.Positions.{words_at, command_at};
+ghost use Rattle.query_words.specs.DataGet.{text_or};
+ghost use Rattle.centre.specs.Commands.{is_position, is_option, are_options, value_of, limit_of, select_words_of, lone_command_of, command_of};
+ghost use Rattle.centre.specs.Arguments.{words_at, command_at};
 
-/// The words of `select` behind its name.
+use crate::MAX_BYTES;
+use query_words::read_whole;
+
+/// The words of `select` behind its name: its positions, and what its options say.
 #[derive(Clone, Copy)]
-pub struct Positions<'a> {
+pub struct SelectArguments<'a> {
     pub network: &'a str,
     pub station: &'a str,
     pub location: &'a str,
     pub channel: &'a str,
     pub start: &'a str,
     pub end: &'a str,
+    pub quality: &'a str,
+    pub minimum: &'a str,
+    pub longest: &'a str,
+    /// How many bytes the answer may have.
+    pub limit: u64,
 }
 
 /// What the program is asked to do, with the words for it.
 #[derive(Clone, Copy)]
 pub enum CommandWords<'a> {
-    Select(Positions<'a>),
+    Select(SelectArguments<'a>),
     Help,
     Version,
 }
@@ -48,23 +57,96 @@ fn are_positions(words: &[String]) -> bool
     words.iter().all(|word| is_position(word))
 }
 
-// The positions, where the words are `select` and six of them.
-fn positions_in(words: &[String]) -> Option<Positions<'_>>
+// Whether the word names an option of `select`.
+fn is_option(word: &str) -> bool
+    ensures { result ≡ is_option word.now }
+{
+    word == "--quality" || word == "--minimum" || word == "--longest" || word == "--max-bytes"
+}
+
+// The value of an option among words in pairs, if it is given.
+fn value_of<'a>(words: &'a [String], name: &str) -> Option<&'a str>
+    ensures { option_map (λ s. s.now) result ≡ value_of name.now (map string_bytes words.entry.now) }
+{
+    let mut rest = words;
+    'pairs: while let [word, value, behind @ ..] = rest {
+        if word.as_str() == name {
+            return Some(value.as_str());
+        }
+        rest = behind;
+    }
+    None
+}
+
+// Whether the words are options with their values, none of them twice.
+fn are_options(words: &[String]) -> bool
+    ensures { result ≡ are_options (map string_bytes words.entry.now) }
+{
+    let mut rest = words;
+    'pairs: while let [name, _, behind @ ..] = rest {
+        if !is_option(name.as_str()) || value_of(behind, name.as_str()).is_some() {
+            return false;
+        }
+        rest = behind;
+    }
+    rest.is_empty()
+}
+
+// How many bytes an answer may have.
+fn limit_of(text: Option<&str>) -> Option<u64>
+    ensures { result ≡ limit_of (option_map (λ s. s.now) text.entry) }
+{
+    let Some(text) = text else {
+        return Some(MAX_BYTES);
+    };
+    match read_whole(text.as_bytes()) {
+        Ok(limit) if limit >= 1 && limit <= MAX_BYTES => Some(limit),
+        _ => None,
+    }
+}
+
+// The value of an option, or its default.
+fn value_or<'a>(words: &'a [String], name: &str, default: &'static str) -> &'a str
+    ensures { result.now ≡ text_or default.now (value_of name.now (map string_bytes words.entry.now)) }
+{
+    match value_of(words, name) {
+        Some(value) => value,
+        None => default,
+    }
+}
+
+// The words behind the name of `select`: six positions, and its options.
+fn arguments_in(words: &[String]) -> Option<SelectArguments<'_>>
     ensures { option_map words_at result ≡ select_words_of (map string_bytes words.entry.now) }
 {
-    let [command, network, station, location, channel, start, end] = words else {
+    let [
+        command,
+        network,
+        station,
+        location,
+        channel,
+        start,
+        end,
+        options @ ..,
+    ] = words
+    else {
         return None;
     };
-    if !is_select(command.as_str()) || !are_positions(&words[1..]) {
+    if !is_select(command.as_str()) || !are_positions(&words[1..7]) || !are_options(options) {
         return None;
     }
-    Some(Positions {
+    let limit = limit_of(value_of(options, "--max-bytes"))?;
+    Some(SelectArguments {
         network: network.as_str(),
         station: station.as_str(),
         location: location.as_str(),
         channel: channel.as_str(),
         start: start.as_str(),
         end: end.as_str(),
+        quality: value_or(options, "--quality", "B"),
+        minimum: value_or(options, "--minimum", "0"),
+        longest: value_or(options, "--longest", "false"),
+        limit,
     })
 }
 
@@ -81,15 +163,16 @@ fn lone_command<'a>(word: &str) -> Option<CommandWords<'a>>
     None
 }
 
-/// The command that the words give: `--help` or `--version` alone, or `select` with its positions.
+/// The command that the words give: `--help` or `--version` alone, or `select` with its positions and
+/// options.
 pub fn command_in(words: &[String]) -> Option<CommandWords<'_>>
     ensures { option_map command_at result ≡ command_of (map string_bytes words.entry.now) }
 {
     if let [word] = words {
         return lone_command(word.as_str());
     }
-    match positions_in(words) {
-        Some(positions) => Some(CommandWords::Select(positions)),
+    match arguments_in(words) {
+        Some(arguments) => Some(CommandWords::Select(arguments)),
         None => None,
     }
 }

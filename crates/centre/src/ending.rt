@@ -11,6 +11,9 @@ pub enum Word {
     Channel,
     Start,
     End,
+    Quality,
+    Minimum,
+    Longest,
 }
 
 /// Why the words and the input give no answer: they determine it.
@@ -24,7 +27,7 @@ pub enum Refusal {
     Order,
     /// The record at this offset, in bytes, is the first that is refused.
     Record { at: usize, fault: RecordFault },
-    /// No record is chosen.
+    /// No record is picked.
     NoData,
     /// The answer has more bytes than the limit.
     TooLarge { bytes: u64, limit: u64 },

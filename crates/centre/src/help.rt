@@ -8,7 +8,7 @@ pub const HELP: &str = "\
 Velkatsa: waveform records by channel and time.
 
 Usage:
-  velkatsa select NET STA LOC CHA START END < RECORDS > CHOSEN
+  velkatsa select NET STA LOC CHA START END [OPTIONS] < RECORDS > CHOSEN
   velkatsa --help
   velkatsa --version
 
@@ -24,16 +24,26 @@ A record whose bytes equal an earlier one's is left out.
                    last sample is at START or later and its first at END or
                    earlier
 
-There are no options yet, so nothing has a default. A word for a position
-can't begin with a hyphen.
+Options, behind END, each as two words and at most once:
+  --quality Q      D, R, Q or M; B, the default, is any
+  --minimum SECS   only segments of at least so many seconds, 0 to 10000000000
+                   with up to six decimals; the default is 0. A segment is a
+                   run of records of one channel, quality and rate, each at
+                   most half a sample period from the end of the one before
+  --longest FLAG   true: of each channel only its longest segment, of equal
+                   ones the first; true, false, 1 or 0; the default is false
+  --max-bytes N    the most bytes that may be written, 1 to 67108864, which
+                   is the default
+
+A word for a position can't begin with a hyphen.
 
 Exit status, and the text on standard error:
    0  nothing        the answer was written
    1  centre: unknown command line
-   2  centre: query: Value START, centre: query: Order,
-      centre: record at offset 512: Short
+   2  centre: query: Value START, centre: query: Value MINIMUM,
+      centre: query: Order, centre: record at offset 512: Short
    3  centre: no data
-   4  centre: 67108865 bytes exceed 67108864
+   4  centre: 512 bytes exceed 511
    5  centre: read fault
    6  centre: write fault
   10  centre: input too long

@@ -3,12 +3,12 @@ ghost use Rattle.std.specs.Prelude.{◌≡◌, ◌≢◌, ◌↔◌, map, string
 ghost use Rattle.exact_time.specs.Causes.{Rose};
 ghost use Rattle.centre.specs.Answers.{IsAnswer};
 ghost use Rattle.centre.specs.Commands.{command_of};
-ghost use Rattle.centre.specs.Positions.{words_at};
+ghost use Rattle.centre.specs.Arguments.{words_at};
 ghost use Rattle.centre.specs.Settled.{Told, ComesWhere, IsComplete, IsCutShort, IsSettled, IsWritten, IsRefused, IsTooLarge};
 ghost use Rattle.centre.specs.Table.{IsRun, Row, SelectRow, ShowRow, stream, world};
 
 use crate::MAX_INPUT;
-use crate::commands::{CommandWords, Positions, command_in};
+use crate::commands::{CommandWords, SelectArguments, command_in};
 use crate::ending::{Refusal, Stop};
 use crate::help::{HELP, VERSION};
 use crate::select::body_of;
@@ -21,16 +21,16 @@ use std::alloc::Global;
 // The command `select`: query, input, records, answer, output.
 fn select<S: Source, K: Sink>(
     alloc: Global,
-    positions: &Positions,
+    arguments: &SelectArguments,
     source: &mut S,
     sink: &mut K,
 ) -> Result<(), Stop>
-    ensures row { SelectRow (words_at positions.now)
+    ensures row { SelectRow (words_at arguments.now)
         (world (stream S.left S.faults source.old) (stream K.written K.faults sink.old))
         (world (stream S.left S.faults source.new) (stream K.written K.faults sink.new))
         result }
 {
-    let query = match select_query(alloc, positions) {
+    let query = match select_query(alloc, arguments) {
         Ok(query) => query,
         Err(stop) => return Err(stop),
     };
@@ -38,7 +38,7 @@ fn select<S: Source, K: Sink>(
         Ok(input) => input,
         Err(unread) => return Err(unread),
     };
-    let body = match body_of(alloc, &query, input.as_slice()) {
+    let body = match body_of(alloc, &query, arguments.limit, input.as_slice()) {
         Ok(body) => body,
         Err(refused) => return Err(refused),
     };
@@ -77,7 +77,7 @@ fn obey<S: Source, K: Sink>(
         None => Err(Stop::Refused(Refusal::UnknownCommand)),
         Some(CommandWords::Help) => show(HELP, source, sink),
         Some(CommandWords::Version) => show(VERSION, source, sink),
-        Some(CommandWords::Select(positions)) => select(alloc, &positions, source, sink),
+        Some(CommandWords::Select(arguments)) => select(alloc, &arguments, source, sink),
     }
 }
 
@@ -89,7 +89,7 @@ fn obey<S: Source, K: Sink>(
 /// | 0 | the sink got the whole answer |
 /// | 1 | the words are no command |
 /// | 2 | a word of the query, or a record of the input, is refused |
-/// | 3 | no record is chosen |
+/// | 3 | no record is picked |
 /// | 4 | the answer is longer than the limit |
 /// | 5, 6 | the source, the sink failed |
 /// | 10 | the input is longer than 67,108,864 bytes |

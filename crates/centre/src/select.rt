@@ -1,12 +1,11 @@
 //! The data body of a query over an input of records.
-ghost use Rattle.std.specs.Prelude.{◌≡◌, ◌≤◌, ◌<◌, ◌^◌, false, [], length, IfOk, IfErr, OnOk};
+ghost use Rattle.std.specs.Prelude.{◌≡◌, ◌≤◌, ◌<◌, ◌^◌, [], length, IfOk, IfErr, OnOk};
 ghost use Rattle.mseed_header.specs.Records.{AreRecords};
 ghost use Rattle.dataselect.specs.Rows.{held_rows};
 ghost use Rattle.centre.specs.declared.TheConstants.{MAX_INPUT};
 ghost use Rattle.centre.specs.Answers.{IsBodyOf, RefusesInput, RefusesRecords, epoch, stop_for_data};
 ghost use Rattle.centre.specs.Words.{StopsWith};
 
-use crate::MAX_BYTES;
 use crate::ending::{Refusal, Stop};
 use dataselect::{All, DataQuery, DataRefusal, PlainShelf, Shelf, answer};
 use exact_time::{Bytes, Many, Moment, OutOfMemory};
@@ -38,33 +37,28 @@ fn shelve<S: Shelf>(shelf: &mut S, rows: Many<Row>) -> Result<(), OutOfMemory>
     Ok(())
 }
 
-/// The data body of a query over an input of records end to end.
-pub fn body_of(alloc: Global, query: &DataQuery, input: &[u8]) -> Result<Bytes, Stop>
+/// The data body of a query over an input of records end to end, of at most `limit` bytes.
+pub fn body_of(alloc: Global, query: &DataQuery, limit: u64, input: &[u8]) -> Result<Bytes, Stop>
     requires within { length input.now ≤ MAX_INPUT }
-    requires minimum { query.now.minimum ≡ 0 }
-    requires longest { query.now.longest ≡ false }
-    ensures ok { IfOk result (λ body. IsBodyOf query.now input.now body) }
-    ensures err { IfErr result (StopsWith (RefusesInput query.now input.now)) }
+    ensures ok { IfOk result (λ body. IsBodyOf query.now limit input.now body) }
+    ensures err { IfErr result (StopsWith (RefusesInput query.now limit input.now)) }
 {
     let rows = rows_of(alloc, input)?;
     let mut shelf = PlainShelf::new(alloc);
     shelve(&mut shelf, rows)?;
-    match answer(alloc, &shelf, &All, query, MAX_BYTES) {
+    match answer(alloc, &shelf, &All, query, limit) {
         Ok(body) => Ok(body),
-        Err(refusal) => Err(stop_for(refusal)),
+        Err(refusal) => Err(stop_for(limit, refusal)),
     }
 }
 
 // How a refusal of the answer stops the run.
-fn stop_for(refusal: DataRefusal) -> Stop
-    ensures { result ≡ stop_for_data refusal }
+fn stop_for(limit: u64, refusal: DataRefusal) -> Stop
+    ensures { result ≡ stop_for_data limit refusal }
 {
     match refusal {
         DataRefusal::Empty => Stop::Refused(Refusal::NoData),
-        DataRefusal::TooLarge(bytes) => Stop::Refused(Refusal::TooLarge {
-            bytes,
-            limit: MAX_BYTES,
-        }),
+        DataRefusal::TooLarge(bytes) => Stop::Refused(Refusal::TooLarge { bytes, limit }),
         DataRefusal::OutOfMemory => Stop::OutOfMemory,
     }
 }

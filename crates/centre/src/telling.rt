@@ -22,6 +22,9 @@ fn value_text(word: Word) -> &'static str
         Word::Channel => "centre: query: Value CHA\n",
         Word::Start => "centre: query: Value START\n",
         Word::End => "centre: query: Value END\n",
+        Word::Quality => "centre: query: Value QUALITY\n",
+        Word::Minimum => "centre: query: Value MINIMUM\n",
+        Word::Longest => "centre: query: Value LONGEST\n",
     }
 }
 

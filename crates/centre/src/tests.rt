@@ -1,6 +1,7 @@
 //! Tests over records, which the crates below share.
 mod headers;
 mod long;
+mod options;
 mod records;
 mod runs;
 mod shelves;

@@ -1,15 +1,18 @@
 //! The query that the words of `select` spell.
-ghost use Rattle.std.specs.Prelude.{◌≡◌, ◌≤ℤ◌, IfOk, IfErr};
+ghost use Rattle.std.specs.Prelude.{◌≡◌, ◌++◌, [], ◌∷◌, Some, IfOk, IfErr};
 ghost use Rattle.exact_time.specs.MomentText.{IsMoment};
 ghost use Rattle.channel_globs.specs.PatternText.{IsPatternList};
-ghost use Rattle.centre.specs.Positions.{words_at};
-ghost use Rattle.centre.specs.Words.{stop_for, AreLists, IsList, IsTime, IsNamed, IsSimple, IsSelectQuery, RefusesWords, StopsWith};
+ghost use Rattle.query_words.specs.Values.{quality_of, flag_of, IsMinimum};
+ghost use Rattle.centre.specs.Arguments.{words_at};
+ghost use Rattle.centre.specs.Words.{stop_for, code_words, time_words, CanReadAll, IsList, IsTime, IsQuality, IsLength, IsFlag, IsNamed, AreOptions, IsSelectQuery, RefusesWords, StopsWith};
 
-use crate::commands::Positions;
+use crate::commands::SelectArguments;
 use crate::ending::{Refusal, Stop, Word};
 use channel_globs::{GlobFault, Part, PatternList};
 use dataselect::{DataQuery, Nodata, Selection};
 use exact_time::{Many, Moment};
+use mseed_header::Quality;
+use query_words::{read_longest, read_minimum, read_quality};
 use std::alloc::Global;
 
 // How a fault of a code word stops the run.
@@ -44,15 +47,48 @@ fn moment(text: &str, word: Word) -> Result<Moment, Refusal>
     }
 }
 
-// The selection of the four code words, without a window.
-fn names(alloc: Global, positions: &Positions) -> Result<Selection, Stop>
-    ensures ok { IfOk result (λ s. IsNamed (words_at positions.now) s) }
-    ensures err { IfErr result (StopsWith (RefusesWords (words_at positions.now))) }
+// The quality that a word asks for.
+fn quality(text: &str) -> Result<Option<Quality>, Refusal>
+    ensures ok { IfOk result (λ quality. quality_of text.now ≡ Some quality) }
+    ensures err { IfErr result (λ refusal. (refusal ≡ Refusal.Value Word.Quality) × (¬ (IsQuality text.now))) }
 {
-    let network = patterns(alloc, positions.network, Part::Network, Word::Network)?;
-    let station = patterns(alloc, positions.station, Part::Station, Word::Station)?;
-    let location = patterns(alloc, positions.location, Part::Location, Word::Location)?;
-    let channel = patterns(alloc, positions.channel, Part::Channel, Word::Channel)?;
+    match read_quality(text.as_bytes()) {
+        Ok(quality) => Ok(quality),
+        Err(_) => Err(Refusal::Value(Word::Quality)),
+    }
+}
+
+// The least length that a word asks for, in microseconds.
+fn minimum(text: &str) -> Result<u64, Refusal>
+    ensures ok { IfOk result (λ minimum. IsMinimum text.now minimum) }
+    ensures err { IfErr result (λ refusal. (refusal ≡ Refusal.Value Word.Minimum) × (¬ (IsLength text.now))) }
+{
+    match read_minimum(text.as_bytes()) {
+        Ok(minimum) => Ok(minimum),
+        Err(_) => Err(Refusal::Value(Word::Minimum)),
+    }
+}
+
+// Whether a word asks for the longest segments alone.
+fn longest(text: &str) -> Result<bool, Refusal>
+    ensures ok { IfOk result (λ longest. flag_of text.now ≡ Some longest) }
+    ensures err { IfErr result (λ refusal. (refusal ≡ Refusal.Value Word.Longest) × (¬ (IsFlag text.now))) }
+{
+    match read_longest(text.as_bytes()) {
+        Ok(longest) => Ok(longest),
+        Err(_) => Err(Refusal::Value(Word::Longest)),
+    }
+}
+
+// The selection of the four code words, without a window.
+fn names(alloc: Global, arguments: &SelectArguments) -> Result<Selection, Stop>
+    ensures ok { IfOk result (λ s. IsNamed (words_at arguments.now) s) }
+    ensures err { IfErr result (StopsWith (RefusesWords (words_at arguments.now))) }
+{
+    let network = patterns(alloc, arguments.network, Part::Network, Word::Network)?;
+    let station = patterns(alloc, arguments.station, Part::Station, Word::Station)?;
+    let location = patterns(alloc, arguments.location, Part::Location, Word::Location)?;
+    let channel = patterns(alloc, arguments.channel, Part::Channel, Word::Channel)?;
     Ok(Selection {
         network,
         station,
@@ -63,70 +99,78 @@ fn names(alloc: Global, positions: &Positions) -> Result<Selection, Stop>
     })
 }
 
-// The window of the two time words. The code words are pattern lists.
-fn window(positions: &Positions) -> Result<(Moment, Moment), Refusal>
-    requires { AreLists (words_at positions.now) }
-    ensures from { IfOk result (λ w. IsMoment positions.now.start.now w.0.micros) }
-    ensures to { IfOk result (λ w. IsMoment positions.now.end.now w.1.micros) }
-    ensures order { IfOk result (λ w. w.0.micros ≤ℤ w.1.micros) }
-    ensures err { IfErr result (RefusesWords (words_at positions.now)) }
+// The moments of the two time words. The words before them can be read.
+fn times(arguments: &SelectArguments) -> Result<(Moment, Moment), Refusal>
+    requires { CanReadAll (words_at arguments.now) code_words }
+    ensures from { IfOk result (λ times. IsMoment arguments.now.start.now times.0.micros) }
+    ensures to { IfOk result (λ times. IsMoment arguments.now.end.now times.1.micros) }
+    ensures err { IfErr result (RefusesWords (words_at arguments.now)) }
 {
-    let from = match moment(positions.start, Word::Start) {
+    let from = match moment(arguments.start, Word::Start) {
         Ok(from) => from,
         Err(refusal) => return Err(refusal),
     };
-    let to = match moment(positions.end, Word::End) {
-        Ok(to) => to,
-        Err(late) => return Err(late),
-    };
-    if from.micros > to.micros {
-        return Err(Refusal::Order);
+    match moment(arguments.end, Word::End) {
+        Ok(to) => Ok((from, to)),
+        Err(late) => Err(late),
     }
-    Ok((from, to))
 }
 
-// The query of one selection, of any quality and any length.
-fn query_of(alloc: Global, selection: Selection) -> Result<DataQuery, Stop>
-    ensures ok { IfOk result (λ query. IsSimple selection query) }
+// What the option words ask for. The words before them can be read.
+fn options(arguments: &SelectArguments) -> Result<(Option<Quality>, u64, bool), Refusal>
+    requires { CanReadAll (words_at arguments.now) (code_words ++ time_words) }
+    ensures ok { IfOk result (λ options. AreOptions (words_at arguments.now) options.0 options.1 options.2) }
+    ensures err { IfErr result (RefusesWords (words_at arguments.now)) }
+{
+    let quality = match quality(arguments.quality) {
+        Ok(quality) => quality,
+        Err(first) => return Err(first),
+    };
+    let minimum = match minimum(arguments.minimum) {
+        Ok(minimum) => minimum,
+        Err(second) => return Err(second),
+    };
+    match longest(arguments.longest) {
+        Ok(longest) => Ok((quality, minimum, longest)),
+        Err(third) => Err(third),
+    }
+}
+
+// The list of one selection.
+fn only(alloc: Global, selection: Selection) -> Result<Many<Selection>, Stop>
+    ensures ok { IfOk result (λ selections. selections ≡ selection ∷ []) }
     ensures err { IfErr result (λ stop. stop ≡ Stop.OutOfMemory) }
 {
     let mut selections = Many::new(alloc);
     selections.push(selection)?;
-    Ok(DataQuery {
-        selections,
-        quality: None,
-        minimum: 0,
-        longest: false,
-        nodata: Nodata::Quiet,
-    })
+    Ok(selections)
 }
 
-/// The query of the six positions, or why they spell none.
-pub fn select_query(alloc: Global, positions: &Positions) -> Result<DataQuery, Stop>
-    ensures ok { IfOk result (λ query. IsSelectQuery (words_at positions.now) query) }
-    ensures err { IfErr result (StopsWith (RefusesWords (words_at positions.now))) }
+/// The query of the words of `select`, or why they spell none.
+pub fn select_query(alloc: Global, arguments: &SelectArguments) -> Result<DataQuery, Stop>
+    ensures ok { IfOk result (λ query. IsSelectQuery (words_at arguments.now) query) }
+    ensures err { IfErr result (StopsWith (RefusesWords (words_at arguments.now))) }
 {
-    let named = names(alloc, positions)?;
-    let (from, to) = match window(positions) {
-        Ok(window) => window,
+    let mut selection = names(alloc, arguments)?;
+    let (from, to) = match times(arguments) {
+        Ok(times) => times,
+        Err(untimely) => return Err(Stop::Refused(untimely)),
+    };
+    let (quality, minimum, longest) = match options(arguments) {
+        Ok(options) => options,
         Err(refusal) => return Err(Stop::Refused(refusal)),
     };
-    let Selection {
-        network,
-        station,
-        location,
-        channel,
-        ..
-    } = named;
-    query_of(
-        alloc,
-        Selection {
-            network,
-            station,
-            location,
-            channel,
-            start: Some(from),
-            end: Some(to),
-        },
-    )
+    if from.micros > to.micros {
+        return Err(Stop::Refused(Refusal::Order));
+    }
+    selection.start = Some(from);
+    selection.end = Some(to);
+    let selections = only(alloc, selection)?;
+    Ok(DataQuery {
+        selections,
+        quality,
+        minimum,
+        longest,
+        nodata: Nodata::Quiet,
+    })
 }

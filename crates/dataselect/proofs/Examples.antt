@@ -1,5 +1,7 @@
 -- Worked examples of the definitions.
-use Rattle.std.proofs.Common.{◌≡◌, true, false, refl, codes, [], ◌∷◌, pos, None, Err}
+use Rattle.std.proofs.Common.{◌≡◌, ◌+◌, ◌==◌, not, ℕ, true, false, refl, codes, [], ◌∷◌, pos, None, Err, arith}
+use Rattle.std.specs.Prelude.{nat_lt}
+use Rattle.std.proofs.Math.Nat.{one-dvd}
 use Rattle.std.specs.declared.cmp.Ordering.TheVariants.{Less, Greater}
 use Rattle.mseed_header.specs.declared.quality.Quality.TheVariants.{D, M}
 use Rattle.dataselect.specs.Order.{name_cmp, rank_cmp}
@@ -8,13 +10,21 @@ use Rattle.dataselect.specs.Chosen.{chosen_places}
 use Rattle.dataselect.specs.DataBody.{data_body, answer_of}
 use Rattle.dataselect.specs.Law.{IsAskedBy, AreChosen}
 use Rattle.dataselect.proofs.Asked.{asked_decides}
+use Rattle.dataselect.proofs.Kept.{are_picked}
 use Rattle.dataselect.proofs.Members.{are_chosen}
 use Rattle.mseed_header.proofs.Examples.{anmo_header}
 use Rattle.dataselect.specs.Query.{is_named, is_selected, is_asked}
+use Rattle.dataselect.specs.Longest.{longest_by}
+use Rattle.dataselect.specs.Picked.{picked_places}
+use Rattle.dataselect.specs.PickedLaw.{ArePicked}
+use Rattle.dataselect.specs.Runs.{runs_by}
+use Rattle.dataselect.specs.Segments.{is_break, length_between, lasts, exceeds, segment_length, segments_of, have_one_name}
 use Rattle.dataselect.specs.Rows.{held_rows, with_row}
 use Rattle.dataselect.specs.declared.answers.DataRefusal.TheVariants.{Empty, TooLarge}
 use Rattle.dataselect.specs.declared.query.DataQuery.{DataQuery}
 use Rattle.dataselect.specs.declared.query.Nodata.TheVariants.{Quiet}
+use Rattle.exact_time.specs.declared.ratio.Ratio.{Ratio}
+use Rattle.mseed_header.specs.declared.header.Header.{Header}
 use Rattle.channel_globs.specs.declared.nslc.Nslc.{Nslc}
 use Rattle.dataselect.specs.declared.order.Rank.{Rank}
 use Rattle.dataselect.specs.declared.query.Selection.{Selection}
@@ -64,7 +74,7 @@ unfolding is_selected is_asked
 chosen = refl
 
 body : data_body (λ _. true) all_of_it (anmo_row ∷ []) ≡ anmo_image
-unfolding is_selected is_asked
+unfolding is_selected is_asked segment_length
 body = refl
 
 -- nothing is chosen where nothing is seen
@@ -72,7 +82,7 @@ unseen : answer_of (λ _. false) all_of_it 512 (anmo_row ∷ []) ≡ Err Empty
 unseen = refl
 
 too_large : answer_of (λ _. true) all_of_it 511 (anmo_row ∷ []) ≡ Err (TooLarge 512)
-unfolding is_selected is_asked
+unfolding is_selected is_asked segment_length
 too_large = refl
 
 -- a double is left out
@@ -90,3 +100,88 @@ asked = (asked_decides all_of_it anmo_header).0 refl
 the_chosen : AreChosen (λ _. true) all_of_it (anmo_row ∷ []) (0 ∷ [])
 unfolding is_selected is_asked
 the_chosen = are_chosen (λ _. true) all_of_it (anmo_row ∷ [])
+
+-- numbers that don't rise by one break
+runs : runs_by (λ (a b : ℕ). not (a + 1 == b)) (1 ∷ 2 ∷ 5 ∷ 6 ∷ 8 ∷ []) ≡ (1 ∷ 2 ∷ []) ∷ (5 ∷ 6 ∷ []) ∷ (8 ∷ []) ∷ []
+runs = refl
+
+-- of pairs of a kind and a length the longest of each kind, on a tie the first: here the second number of
+-- a pair tells its length, and the third which it is
+longest : longest_by (λ (a b : ℕ × ℕ × ℕ). a.0 == b.0) (λ a b. nat_lt b.1 a.1) ((1, 4, 0) ∷ (1, 6, 1) ∷ (1, 6, 2) ∷ (2, 3, 3) ∷ (2, 3, 4) ∷ []) ≡ (1, 6, 1) ∷ (2, 3, 3) ∷ []
+longest = refl
+
+-- a header that starts so many microseconds after 1970: that of IU ANMO 00 BHZ has 100 samples at 20 Hz,
+-- which are 5 seconds, and half a period is 25,000 microseconds
+abbrev starting : ℕ → Header
+starting micros = record anmo_header { start = record { micros = pos micros } }
+
+follows : is_break anmo_header (starting 1_706_745_605_000_000) ≡ false
+unfolding is_break
+follows = refl
+
+late : is_break anmo_header (starting 1_706_745_605_025_000) ≡ false
+unfolding is_break
+late = refl
+
+too_late : is_break anmo_header (starting 1_706_745_605_025_001) ≡ true
+unfolding is_break
+too_late = refl
+
+too_early : is_break anmo_header (starting 1_706_745_604_974_999) ≡ true
+unfolding is_break
+too_early = refl
+
+modified : is_break anmo_header (record (starting 1_706_745_605_000_000) { quality = M }) ≡ true
+unfolding is_break
+modified = refl
+
+elsewhere : is_break anmo_header (record (starting 1_706_745_605_000_000) { name = blank_anmo }) ≡ true
+unfolding is_break
+elsewhere = refl
+
+-- what has no rate breaks from what has none and starts where that ends
+abbrev no_rate : Ratio
+no_rate = record {
+  num = 0;
+  den = 1;
+  num_in = omega arith;
+  den_in = omega arith;
+  above = omega arith;
+  lowest = (one-dvd 0, one-dvd 1, λ d p q. q);
+}
+
+without_rate : is_break (record anmo_header { rate = no_rate }) (record anmo_header { rate = no_rate }) ≡ true
+unfolding is_break
+without_rate = refl
+
+-- two such records that follow one another last 10 seconds, in twentieths of a microsecond
+ten_seconds : length_between anmo_header (starting 1_706_745_605_000_000) ≡ record { micros = 200_000_000; parts = 20 }
+ten_seconds = refl
+
+long_enough : lasts 10_000_000 (length_between anmo_header (starting 1_706_745_605_000_000)) ≡ true
+long_enough = refl
+
+too_short : lasts 10_000_001 (length_between anmo_header (starting 1_706_745_605_000_000)) ≡ false
+too_short = refl
+
+-- a third of a microsecond is longer than a quarter
+longer : exceeds (record { micros = 1; parts = 3 }) (record { micros = 1; parts = 4 }) ≡ true
+longer = refl
+
+-- two records that start together are two segments, and the first is the longest
+two : segments_of (anmo_row ∷ anmo_row ∷ []) (0 ∷ 1 ∷ []) ≡ (0 ∷ []) ∷ (1 ∷ []) ∷ []
+unfolding is_break
+two = refl
+
+tie : picked_places (λ _. true) (record all_of_it { longest = true }) (anmo_row ∷ anmo_row ∷ []) ≡ 0 ∷ []
+unfolding is_selected is_asked is_break segment_length have_one_name
+tie = refl
+
+-- no record lasts longer than 5 seconds
+none_so_long : picked_places (λ _. true) (record all_of_it { minimum = 5_000_001 }) (anmo_row ∷ anmo_row ∷ []) ≡ []
+unfolding is_selected is_asked is_break segment_length
+none_so_long = refl
+
+the_picked : ArePicked (record all_of_it { longest = true }) (anmo_row ∷ anmo_row ∷ []) (0 ∷ 1 ∷ []) (0 ∷ [])
+unfolding is_break segment_length have_one_name
+the_picked = are_picked (record all_of_it { longest = true }) (anmo_row ∷ anmo_row ∷ []) (0 ∷ 1 ∷ [])

@@ -1,5 +1,5 @@
--- Each chosen place is that of a row, and no more are chosen than there are.
-use Rattle.std.proofs.Common.{◌≡◌, ℕ, ◌+◌, ◌<◌, ◌≤◌, Bool, true, false, List, [], ◌∷◌, length, sym, ap, arith, cond, subst, map}
+-- Each chosen and each picked place is that of a row, and no more are picked than there are.
+use Rattle.std.proofs.Common.{◌≡◌, ℕ, ◌+◌, ◌<◌, ◌≤◌, Bool, true, false, List, [], ◌∷◌, length, refl, sym, ap, arith, cond, subst, map}
 use Rattle.std.proofs.lemmas.List.{length-map}
 use Rattle.std.specs.List.{AllByRecursion}
 use Rattle.list_laws.proofs.Keys.{all_in_order, length_in_order}
@@ -8,6 +8,8 @@ use Rattle.dataselect.specs.declared.order.Rank.{Rank}
 use Rattle.dataselect.specs.declared.query.DataQuery.{DataQuery}
 use Rattle.dataselect.specs.Order.{rank_cmp, rank_at}
 use Rattle.dataselect.specs.Chosen.{passes, ranks_from, ranks_chosen, chosen_places}
+use Rattle.dataselect.specs.Picked.{picked_places}
+use Rattle.dataselect.proofs.Wholes.{all_picked, length_picked}
 
 all_ranks : (seen : Row → Bool) (query : DataQuery) (n i : ℕ) (rows : List Row) → i + length rows ≤ n → AllByRecursion (λ r. r.index < n) (ranks_from seen query i rows)
 all_ranks seen query n i [] h = tt
@@ -31,13 +33,18 @@ all_mapped : (n : ℕ) (ranks : List Rank) → AllByRecursion (λ r. r.index < n
 all_mapped n [] all = tt
 all_mapped n (r ∷ ranks) all = (all.0, all_mapped n ranks all.1)
 
--- each chosen index is that of a row
-pub inside : (seen : Row → Bool) (query : DataQuery) (rows : List Row) (places : List ℕ) → places ≡ chosen_places seen query rows → AllByRecursion (λ i. i < length rows) places
-inside seen query rows places e =
+-- each chosen place is that of a row
+pub inside_chosen : (seen : Row → Bool) (query : DataQuery) (rows : List Row) (places : List ℕ) → places ≡ chosen_places seen query rows → AllByRecursion (λ i. i < length rows) places
+inside_chosen seen query rows places e =
     subst (λ (ps : List ℕ). AllByRecursion (λ i. i < length rows) ps) (sym e)
     (all_mapped (length rows) (ranks_chosen seen query rows) (all_in_order rank_cmp (λ r. r.index < length rows) [] (ranks_from seen query 0 rows) tt (all_ranks seen query (length rows) 0 rows (omega arith))))
 
--- no more rows are chosen than there are
-pub few : (seen : Row → Bool) (query : DataQuery) (rows : List Row) (places : List ℕ) → places ≡ chosen_places seen query rows → length places ≤ length rows
+-- each picked place is that of a row
+pub inside : (seen : Row → Bool) (query : DataQuery) (rows : List Row) (places : List ℕ) → places ≡ picked_places seen query rows → AllByRecursion (λ i. i < length rows) places
+inside seen query rows places e =
+    subst (λ (ps : List ℕ). AllByRecursion (λ i. i < length rows) ps) (sym e) (all_picked (λ i. i < length rows) query rows (chosen_places seen query rows) (inside_chosen seen query rows (chosen_places seen query rows) refl))
+
+-- no more rows are picked than there are
+pub few : (seen : Row → Bool) (query : DataQuery) (rows : List Row) (places : List ℕ) → places ≡ picked_places seen query rows → length places ≤ length rows
 few seen query rows places e =
-    omega (arith, ap length e, length-map (ranks_chosen seen query rows) (λ r. r.index), length_in_order rank_cmp [] (ranks_from seen query 0 rows), length_ranks seen query 0 rows)
+    omega (arith, ap length e, length_picked query rows (chosen_places seen query rows), length-map (ranks_chosen seen query rows) (λ r. r.index), length_in_order rank_cmp [] (ranks_from seen query 0 rows), length_ranks seen query 0 rows)

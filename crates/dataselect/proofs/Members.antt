@@ -38,7 +38,7 @@ all_ranked seen query whole i (row ∷ rows) at =
       | false ↦ λ e. rest
     ] refl
 
-ranked : (seen : Row → Bool) (query : DataQuery) (rows : List Row) → AllByRecursion (IsRanked seen query rows) (ranks_chosen seen query rows)
+pub ranked : (seen : Row → Bool) (query : DataQuery) (rows : List Row) → AllByRecursion (IsRanked seen query rows) (ranks_chosen seen query rows)
 ranked seen query rows =
     let same : (k : ℕ) → 0 + k ≡ k = λ k. omega arith in
     all_in_order rank_cmp (IsRanked seen query rows) [] (ranks_from seen query 0 rows) tt (all_ranked seen query rows 0 rows (λ k. ap (slice_get rows) (same k)))

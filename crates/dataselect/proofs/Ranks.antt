@@ -13,7 +13,7 @@ use Rattle.mseed_header.specs.declared.quality.Quality.TheVariants.{D, M, Q, R}
 use Rattle.dataselect.specs.declared.order.Rank.{Rank}
 use Rattle.dataselect.specs.Order.{name_cmp, rank_cmp}
 
-names_total : IsTotalOrder name_cmp
+pub names_total : IsTotalOrder name_cmp
 names_total =
     then_total (on_total (λ (n : Nslc). n.network) nat_list_cmp_total)
     (then_total (on_total (λ (n : Nslc). n.station) nat_list_cmp_total)
@@ -27,7 +27,7 @@ ranks_total =
     (then_total (on_total (λ (r : Rank). r.entry) nat_cmp_total)
     (then_total (on_total (λ (r : Rank). r.place) nat_cmp_total) (on_total (λ (r : Rank). r.index) nat_cmp_total)))))
 
-exact_names : CmpEqualImpliesEq name_cmp
+pub exact_names : CmpEqualImpliesEq name_cmp
 exact_names a b h =
     ap (λ (p : List ℕ × (List ℕ × (List ℕ × List ℕ))). record { network = p.0; station = p.1.0; location = p.1.1.0; channel = p.1.1.1 })
     (exact_pairs (slice_cmp nat_cmp) _ exact_bytes

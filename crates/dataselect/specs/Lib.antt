@@ -1,6 +1,11 @@
 pub mod Chosen
 pub mod DataBody
 pub mod Law
+pub mod Longest
 pub mod Order
+pub mod Picked
+pub mod PickedLaw
 pub mod Query
 pub mod Rows
+pub mod Runs
+pub mod Segments

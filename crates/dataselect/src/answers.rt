@@ -1,5 +1,5 @@
 //! The body of a waveform answer.
-ghost use Rattle.std.specs.Prelude.{◌≡◌, ℕ, ◌+◌, ◌^◌, ◌<◌, ◌≤◌, false, length, IfOk, IfErr, Ok};
+ghost use Rattle.std.specs.Prelude.{◌≡◌, ℕ, ◌+◌, ◌^◌, ◌<◌, ◌≤◌, length, IfOk, IfErr, Ok};
 ghost use Rattle.std.specs.List.{AllByRecursion};
 ghost use Rattle.dataselect.specs.DataBody.{answer_of, images_at, RefusesAs};
 
@@ -15,9 +15,9 @@ use std::fmt;
 /// Why there is no data body, in the order of the tests.
 #[derive(Clone, Copy, Debug, PartialEq, Eq)]
 pub enum DataRefusal {
-    /// No row is chosen.
+    /// No row is picked.
     Empty,
-    /// The chosen rows have this many bytes, more than the limit.
+    /// The picked rows have this many bytes, more than the limit.
     TooLarge(u64),
     OutOfMemory,
 }
@@ -77,8 +77,8 @@ fn body<S: Shelf>(alloc: Global, shelf: &S, places: &[usize]) -> Result<Bytes, O
     Ok(body)
 }
 
-/// The chosen records, one after another: Empty where none is chosen, TooLarge where they have more
-/// than `max_bytes` bytes. The query asks for no least length and not for the longest segments.
+/// The picked records, one after another: Empty where none is picked, TooLarge where they have more
+/// than `max_bytes` bytes.
 pub fn answer<S: Shelf, V: Sight>(
     alloc: Global,
     shelf: &S,
@@ -86,8 +86,6 @@ pub fn answer<S: Shelf, V: Sight>(
     query: &DataQuery,
     max_bytes: u64,
 ) -> Result<Bytes, DataRefusal>
-    requires minimum { query.now.minimum ≡ 0 }
-    requires longest { query.now.longest ≡ false }
     ensures body { IfOk result (λ body. answer_of (V.seen sight.now) query.now max_bytes (S.rows shelf.now) ≡ Ok body) }
     ensures refused { IfErr result (RefusesAs (answer_of (V.seen sight.now) query.now max_bytes (S.rows shelf.now))) }
 {

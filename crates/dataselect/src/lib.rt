@@ -1,22 +1,28 @@
 //! Queries for waveforms over the rows of a shelf (FDSN Web Service Specifications 1.2, dataselect).
 //!
 //! What the crates above use: over any [`Shelf`] and any [`Sight`], [`answer`] is the data body of
-//! `specs/DataBody.antt`: the bytes of the chosen rows, one after another, in the order of
-//! `specs/Order.antt`. A shelf stands for its list of rows in order of insertion
-//! (`specs/Rows.antt`). [`PlainShelf`] keeps that list and walks it for each query.
+//! `specs/DataBody.antt`: the bytes of the picked rows, one after another, in the order of
+//! `specs/Order.antt`. The chosen rows are cut into segments (`specs/Segments.antt`), of which the query
+//! picks those of a least length, or the longest of each name (`specs/Picked.antt`). A shelf stands for
+//! its list of rows in order of insertion (`specs/Rows.antt`). [`PlainShelf`] keeps that list and walks
+//! it for each query.
 #![tactic(auto)]
 
 mod answers;
 mod law;
+mod lengths;
 mod order;
+mod picked;
 mod plain;
 mod query;
+mod segments;
 mod shelf;
 mod sight;
 
 pub use answers::{DataRefusal, answer};
-pub use law::chosen_in_the_subjects_words;
+pub use law::{chosen_in_the_subjects_words, picked_in_the_subjects_words};
 pub use order::{Rank, places_of, rank_of};
+pub use picked::pick;
 pub use plain::{PlainShelf, is_chosen};
 pub use query::{DataQuery, Nodata, Selection};
 pub use shelf::{Inserted, Shelf};

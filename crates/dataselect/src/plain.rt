@@ -1,9 +1,10 @@
 //! The plain shelf: a list, walked for each question.
 ghost use Rattle.std.specs.Prelude.{◌≡◌, ℕ, ◌^◌, ◌≤◌, List, [], length, IfOk};
 ghost use Rattle.dataselect.specs.Rows.{has_image};
-ghost use Rattle.dataselect.specs.Chosen.{passes, ranks_chosen};
+ghost use Rattle.dataselect.specs.Chosen.{passes, ranks_chosen, chosen_places};
 
 use crate::order::{Rank, places_of, rank_of};
+use crate::picked::pick;
 use crate::query::DataQuery;
 use crate::shelf::{Inserted, Shelf};
 use crate::sight::Sight;
@@ -63,6 +64,19 @@ fn ranks<V: Sight>(
     Ok(ranks)
 }
 
+// The places of the chosen rows, in their order.
+fn chosen<V: Sight>(
+    alloc: Global,
+    rows: &[Row],
+    sight: &V,
+    query: &DataQuery,
+) -> Result<Many<usize>, OutOfMemory>
+    ensures places { IfOk result (λ places. places ≡ chosen_places (V.seen sight.now) query.now rows.now) }
+{
+    let ranks = ranks(alloc, rows, sight, query)?;
+    places_of(alloc, &ranks)
+}
+
 impl Shelf for PlainShelf {
     ghost rows = { λ s. s.rows.items };
 
@@ -83,8 +97,9 @@ impl Shelf for PlainShelf {
     }
 
     fn choose<V: Sight>(&self, sight: &V, query: &DataQuery) -> Result<Many<usize>, OutOfMemory> {
-        let ranks = ranks(self.alloc, &self.rows, sight, query)?;
-        places_of(self.alloc, &ranks)
+        let rows = self.rows.as_slice();
+        let places = chosen(self.alloc, rows, sight, query)?;
+        pick(self.alloc, rows, places.as_slice(), query)
     }
 
     ghost few = { λ s. s.few };

@@ -1,9 +1,9 @@
 //! What a shelf of rows is, however it is kept.
-ghost use Rattle.std.specs.Prelude.{◌≡◌, ℕ, ◌+◌, ◌^◌, ◌<◌, ◌≤◌, false, List, length, IfOk, OnOk, OnErr, Some};
+ghost use Rattle.std.specs.Prelude.{◌≡◌, ℕ, ◌+◌, ◌^◌, ◌<◌, ◌≤◌, List, length, IfOk, OnOk, OnErr, Some};
 ghost use Rattle.std.specs.List.{slice_get};
 ghost use Rattle.mseed_header.specs.declared.row.Row.{Row};
 ghost use Rattle.dataselect.specs.Rows.{inserted_as, with_row};
-ghost use Rattle.dataselect.specs.Chosen.{chosen_places};
+ghost use Rattle.dataselect.specs.Picked.{picked_places};
 
 use crate::query::DataQuery;
 use crate::sight::Sight;
@@ -40,12 +40,9 @@ pub trait Shelf {
         ensures ok { OnOk result (rows self.new ≡ with_row (rows self.old) row) }
         ensures err { OnErr result (rows self.new ≡ rows self.old) };
 
-    /// The places of the chosen rows, in their order. The query asks for no least length and not for
-    /// the longest segments.
+    /// The places of the picked rows, in order: the chosen rows of the segments that the query asks for.
     fn choose<V: Sight>(&self, sight: &V, query: &DataQuery) -> Result<Many<usize>, OutOfMemory>
-        requires minimum { query.now.minimum ≡ 0 }
-        requires longest { query.now.longest ≡ false }
-        ensures { IfOk result (λ places. places ≡ chosen_places (V.seen sight.now) query.now (rows self.now)) };
+        ensures { IfOk result (λ places. places ≡ picked_places (V.seen sight.now) query.now (rows self.now)) };
 
     /// No shelf holds more rows.
     ghost few: { (shelf : Self) → length (rows shelf) ≤ 2 ^ 32 };

@@ -31,13 +31,13 @@ pub value_bound : (text : List ℕ) → list_all is_ascii_digit text ≡ true �
 value_bound text h = digits_value-lt 10 text (all_digits text h)
 
 -- the number of the digits up to one more stays within 64 bits
-pub value_fits : (text : List ℕ) (i : ℕ) → list_all is_ascii_digit text ≡ true → length text ≤ 18 → i < length text → digits_value 10 (take i text) * 10 + digit_value (get_or text i 0) < 2 ^ 64
+pub value_fits : (text : List ℕ) (i : ℕ) → list_all is_ascii_digit text ≡ true → length text ≤ 19 → i < length text → digits_value 10 (take i text) * 10 + digit_value (get_or text i 0) < 2 ^ 64
 value_fits text i h short lt =
     let a = digits_value_more 10 text i lt in
     let b = digits_value-take-le 10 text (i + 1) (omega arith) in
     let c = value_bound text h in
-    let d : 10 ^ length text ≤ 10 ^ 18 = pow-le-pow_right (omega arith) short in
-    let e : 10 ^ 18 < 2 ^ 64 = lit< tt in
+    let d : 10 ^ length text ≤ 10 ^ 19 = pow-le-pow_right (omega arith) short in
+    let e : 10 ^ 19 < 2 ^ 64 = lit< tt in
     omega (arith, a, b, c, d, e)
 
 -- decimals count at most 999,999 millionths

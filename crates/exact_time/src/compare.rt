@@ -23,8 +23,8 @@ fn lead(k: u32, den: u32) -> u128
     k as u128 * den as u128 * 1_000_000
 }
 
-// The divisor of a time.
-fn parts(time: SampleTime) -> u32
+/// The divisor of a time: it lies at a whole number of microseconds divided by this.
+pub fn parts(time: SampleTime) -> u32
     ensures value { result ≡ sample_parts time.rate }
     ensures bound { result ≤ 1_073_741_824 }
 {
@@ -76,8 +76,8 @@ fn half(time: SampleTime) -> u64
     }
 }
 
-// How much later the moment is than the time, times the divisor.
-fn lateness(time: SampleTime, q: Moment) -> i128
+/// How much later the moment is than the time, in microseconds times [`parts`] of the time.
+pub fn lateness(time: SampleTime, q: Moment) -> i128
     ensures value { result ≡ lateness time q.micros }
     ensures bound { unsigned_abs result ≤ 2 ^ 95 }
 {

@@ -14,17 +14,17 @@ pub struct Decimal {
     pub ghost millionths_in: { unsigned_abs millionths < 1_000_000_000_000_000_000_000_000 },
 }
 
-// Whether each byte is a digit.
-fn are_digits(text: &[u8]) -> bool
+/// Whether each byte is a digit, `0` to `9`.
+pub fn are_digits(text: &[u8]) -> bool
     ensures { result ≡ are_digits text.now }
 {
     text.iter().all(|byte| byte.is_ascii_digit())
 }
 
-// The number that digits stand for.
-fn number_of(digits: &[u8]) -> u64
+/// The number that at most 19 digits stand for.
+pub fn number_of(digits: &[u8]) -> u64
     requires digits { are_digits digits.now ≡ true }
-    requires short { length digits.now ≤ 18 }
+    requires short { length digits.now ≤ 19 }
     ensures value { result ≡ digits_value 10 digits.now }
     ensures bound { result < 10 ^ length digits.now }
 {

@@ -30,8 +30,8 @@ mod tests;
 mod writing;
 
 pub use civil::btime;
-pub use compare::{cmp_sample_time, cmp_times, gap_at_most, overlap_at_most};
-pub use decimal::Decimal;
+pub use compare::{cmp_sample_time, cmp_times, gap_at_most, lateness, overlap_at_most, parts};
+pub use decimal::{Decimal, are_digits, number_of};
 pub use error::{Failed, OutOfMemory};
 pub use fields::BTime;
 pub use growing::{Bytes, Many, Text};

@@ -2,8 +2,9 @@
 ghost use Rattle.exact_time.specs.Written.{IsWritable};
 
 use crate::{
-    BTime, Bytes, Decimal, Many, Moment, OutOfMemory, Ratio, SampleTime, Text, TimeFault, btime,
-    cmp_sample_time, cmp_times, gap_at_most, overlap_at_most,
+    BTime, Bytes, Decimal, Many, Moment, OutOfMemory, Ratio, SampleTime, Text, TimeFault,
+    are_digits, btime, cmp_sample_time, cmp_times, gap_at_most, lateness, number_of,
+    overlap_at_most, parts,
 };
 use std::alloc::Global;
 use std::cmp::Ordering;
@@ -139,6 +140,11 @@ fn reads_decimals(rt: HostRuntime) {
         Ok(999_999_999_999_999_999_999_999),
     );
     check_decimal(&rt, "0000000000000000001", Err(TimeFault::Range));
+    assert!(rt; are_digits(b"0189") && !are_digits(b"1-"));
+    assert_eq!(rt;
+        number_of(b"9999999999999999999"),
+        9_999_999_999_999_999_999
+    );
     for form in [
         "",
         "-",
@@ -297,6 +303,8 @@ fn allows_half_a_period(rt: HostRuntime) {
     };
     assert!(rt; gap_at_most(thirds, Moment { micros: 833_333 }, 0));
     assert!(rt; !gap_at_most(thirds, Moment { micros: 833_334 }, 0));
+    assert_eq!(rt; parts(thirds), 3);
+    assert_eq!(rt; lateness(thirds, Moment { micros: 833_333 }), 499_999);
     assert_eq!(rt; cmp_times(thirds, next), Ordering::Less);
     let also = SampleTime {
         start: Moment { micros: 4_000_000 },

@@ -15,7 +15,8 @@
 //! A body has parameter lines, each a name, `=` and a value, and then selection lines of six fields
 //! (`specs/Bodies.antt`). Blank lines are passed over, and numbers count all lines.
 //!
-//! [`read_quality`], [`read_minimum`], [`read_longest`] and [`read_nodata`] read single values.
+//! [`read_quality`], [`read_minimum`], [`read_longest`], [`read_nodata`] and [`read_whole`] read single
+//! values.
 #![tactic(auto)]
 
 mod asked;
@@ -34,4 +35,4 @@ mod words;
 pub use fault::QueryFault;
 pub use get::data_get;
 pub use post::data_post;
-pub use values::{BadValue, read_longest, read_minimum, read_nodata, read_quality};
+pub use values::{BadValue, read_longest, read_minimum, read_nodata, read_quality, read_whole};

@@ -1,6 +1,7 @@
 //! Worked rows, and each public call with ample memory.
 use crate::{
     QueryFault, data_get, data_post, read_longest, read_minimum, read_nodata, read_quality,
+    read_whole,
 };
 use channel_globs::Code;
 use dataselect::{DataQuery, Nodata};
@@ -184,6 +185,9 @@ fn reads_single_values(rt: HostRuntime) -> Result<(), Fail> {
         Some(10_000_000_000_000_000)
     );
     assert!(&rt; read_minimum(b"10000000000.000001").is_err());
+    assert_eq!(&rt; read_whole(b"0000000000000000512").ok(), Some(512));
+    assert!(&rt; read_whole(b"").is_err() && read_whole(b"+1").is_err());
+    assert!(&rt; read_whole(b"00000000000000000512").is_err());
     assert_eq!(&rt; read_longest(b"False").ok(), Some(false));
     assert_eq!(&rt; read_longest(b"1").ok(), Some(true));
     assert!(&rt; read_longest(b"yes").is_err());

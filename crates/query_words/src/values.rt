@@ -1,9 +1,9 @@
 //! The values of single parameters.
 ghost use Rattle.std.specs.Prelude.{◌≡◌, Option, Some, None, ℕ, MatchResult};
-ghost use Rattle.query_words.specs.Values.{asked_of, quality_of, nodata_of, flag_of, IsMinimum};
+ghost use Rattle.query_words.specs.Values.{asked_of, quality_of, nodata_of, flag_of, whole_of, IsMinimum};
 
 use dataselect::Nodata;
-use exact_time::Decimal;
+use exact_time::{Decimal, are_digits, number_of};
 use mseed_header::Quality;
 
 // The greatest minimum length: 10^10 seconds, in microseconds.
@@ -38,6 +38,16 @@ pub fn read_quality(text: &[u8]) -> Result<Option<Quality>, BadValue>
         Some(quality) => Ok(quality),
         None => Err(BadValue),
     }
+}
+
+/// A whole number: 1 to 19 digits.
+pub fn read_whole(text: &[u8]) -> Result<u64, BadValue>
+    ensures exact { MatchResult result (λ n. whole_of text.now ≡ Some n) (λ _. whole_of text.now ≡ None) }
+{
+    if text.is_empty() || text.len() > 19 || !are_digits(text) {
+        return Err(BadValue);
+    }
+    Ok(number_of(text))
 }
 
 /// The least length of a segment (`minimumlength`): a decimal of seconds from 0 to 10^10, given in

@@ -64,7 +64,8 @@ fn check_with(
     Ok(())
 }
 
-fn check(
+/// Runs the words over the input without a fault, and compares.
+pub fn check(
     rt: &(impl Abort + AllocGlobal),
     words: &[&str],
     input: &[u8],
@@ -90,7 +91,8 @@ fn check_window(
     }
 }
 
-const USUAL: [&str; 7] = [
+/// The usual query.
+pub const USUAL: [&str; 7] = [
     "select",
     "IU",
     "ANMO",

@@ -1,5 +1,5 @@
 //! Shelves and answers.
-ghost use Rattle.std.specs.Prelude.{◌≡◌, ◌==◌, ◌%◌, false, IfOk};
+ghost use Rattle.std.specs.Prelude.{◌==◌, ◌%◌, false};
 
 use super::records::{anmo_record, anmo_record_at, changed, cut};
 use channel_globs::{Nslc, Part, PatternList};
@@ -48,10 +48,7 @@ fn selection(alloc: Global, location: &str, channel: &str) -> Result<Selection, 
     })
 }
 
-fn query_of(selections: Many<Selection>, quality: Option<Quality>) -> DataQuery
-    ensures minimum { result.minimum ≡ 0 }
-    ensures longest { result.longest ≡ false }
-{
+fn query_of(selections: Many<Selection>, quality: Option<Quality>) -> DataQuery {
     DataQuery {
         selections,
         quality,
@@ -61,10 +58,7 @@ fn query_of(selections: Many<Selection>, quality: Option<Quality>) -> DataQuery
     }
 }
 
-fn simple_query(alloc: Global, channel: &str, quality: Option<Quality>) -> Result<DataQuery, Fail>
-    ensures minimum { IfOk result (λ query. query.minimum ≡ 0) }
-    ensures longest { IfOk result (λ query. query.longest ≡ false) }
-{
+fn simple_query(alloc: Global, channel: &str, quality: Option<Quality>) -> Result<DataQuery, Fail> {
     let mut selections = Many::new(alloc);
     selections.push(selection(alloc, "00", channel)?)?;
     Ok(query_of(selections, quality))

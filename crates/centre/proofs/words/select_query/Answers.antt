@@ -1,12 +1,24 @@
-use Rattle.std.proofs.Common.{refl}
-use Rattle.std.proofs.lemmas.Result.{IfOk-weaker}
+use Rattle.std.proofs.Common.{refl, arith}
+use Rattle.std.proofs.lemmas.Int.{ints}
+use Rattle.centre.specs.Arguments.{words_at}
+use Rattle.centre.proofs.OneQuery.{all_read}
 use Rattle.centre.proofs.words.select_query.Goals as goal
+
+pub returns-then-from-to-clause-err : goal.returns-then-from-to-clause-err
+returns-then-from-to-clause-err c = record {
+  all = all_read (words_at c.args.arguments.now) c.in_ok-selection.selection c.in-Ok.times.0 c.in-Ok.times.1 c.in-Ok-options.options.0 c.in-Ok-options.options.1 c.in-Ok-options.options.2
+      c.in_ok-selection.ensures.ok c.in-Ok.ensures.from c.in-Ok.ensures.to c.in-Ok-options.ensures.ok;
+  from = c.in-Ok.times.0.micros;
+  to = c.in-Ok.times.1.micros;
+  from_is = c.in-Ok.ensures.from;
+  to_is = c.in-Ok.ensures.to;
+  order = omega (arith, ints, c.if-from-to.true);
+}
 
 pub returns-clause-ok : goal.returns-clause-ok
 returns-clause-ok c =
-    let h = c.in_ok-named.ensures.ok in
-    let w = c.in-Ok.ensures in
-    IfOk-weaker c.query_of.result _ _ (λ query simple. record {
+    let h = c.in_ok-selection.ensures.ok in
+    record {
       selection = _;
       named = record { network_is = h.network_is; station_is = h.station_is; location_is = h.location_is; channel_is = h.channel_is };
       window = record {
@@ -14,9 +26,11 @@ returns-clause-ok c =
         to = _;
         start_is = refl;
         end_is = refl;
-        from_is = w.from;
-        to_is = w.to;
-        order = w.order;
+        from_is = c.in-Ok.ensures.from;
+        to_is = c.in-Ok.ensures.to;
+        order = omega (arith, ints, c.if-from-to.false);
       };
-      simple = simple;
-    }) c.query_of.ensures.ok
+      only = c.in_ok-selections.ensures.ok;
+      options = c.in-Ok-options.ensures.ok;
+      nodata = refl;
+    }
