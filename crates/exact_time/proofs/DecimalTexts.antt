@@ -312,3 +312,8 @@ pub only_decimal : (text : List ℕ) (answer : Result Decimal TimeFault) → Mat
     → IsOnly (λ (d : Decimal). IsDecimal text d.millionths) (RefusesDecimal text) answer
 only_decimal text answer right =
     only_from (λ (d : Decimal). IsDecimal text d.millionths) (RefusesDecimal text) (same_decimal text) (one_refusal text) (λ d f h k. no_decimal text d.millionths f h k) answer right
+
+-- a text is one number or has one fault
+pub number_or_fault : (text : List ℕ) → (answer : Result ℤ TimeFault) × IsOnly (IsDecimal text) (RefusesDecimal text) answer
+number_or_fault text =
+    (decimal_of text, only_from (IsDecimal text) (RefusesDecimal text) (one_decimal text) (one_refusal text) (no_decimal text) (decimal_of text) (decimal_right text))

@@ -6,6 +6,7 @@ pub mod DecimalsWritten
 pub mod Digits
 pub mod Examples
 pub mod Lowest
+pub mod MomentFound
 pub mod MomentTexts
 pub mod Rates
 pub mod Spellings

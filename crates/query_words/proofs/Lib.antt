@@ -1,13 +1,16 @@
 pub mod Examples
 pub mod FrontSteps
+pub mod GetFound
 pub mod Held
 pub mod LineCuts
 pub mod Minimums
 pub mod OneDataGet
 pub mod OneDataPost
 pub mod PairSteps
+pub mod PostFound
 pub mod PostSteps
 pub mod RefusalLaws
 pub mod RowPlaces
 pub mod SaidWords
 pub mod SelectionSteps
+pub mod ValuesFound

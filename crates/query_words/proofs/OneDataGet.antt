@@ -174,7 +174,7 @@ one_why query f g (order a h) (order b k) = a ∙ sym b
 one_fault : (query : Text) (f g : QueryFault) → IsGetFault query f → IsGetFault query g → f ≡ g
 one_fault query f g h k = one_why query f g (why query f h) (why query g k)
 
-only_get : (query : Text) (answer : Result DataQuery QueryFault) → MatchResult answer (IsDataGet query) (IsGetFault query) → IsOnly (IsDataGet query) (IsGetFault query) answer
+pub only_get : (query : Text) (answer : Result DataQuery QueryFault) → MatchResult answer (IsDataGet query) (IsGetFault query) → IsOnly (IsDataGet query) (IsGetFault query) answer
 only_get query answer right = only_from (IsDataGet query) (IsGetFault query) (one_query query) (one_fault query) (no_fault query) answer right
 
 pub only_read : (query : Text) (q : DataQuery) → IsDataGet query q → IsOnly (IsDataGet query) (IsGetFault query) (Ok q)

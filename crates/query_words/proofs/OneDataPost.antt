@@ -20,7 +20,7 @@ use Rattle.query_words.proofs.OneDataGet.{taken_apart, one_wrong, one_limit, one
 use Rattle.query_words.proofs.RefusalLaws.{none_refused, one_refused}
 use Rattle.query_words.proofs.SelectionSteps.{selections_taken}
 
-not_both : (text : Text) → IsAscii text → IsNotAscii text → ⊥
+pub not_both : (text : Text) → IsAscii text → IsNotAscii text → ⊥
 not_both text h k = let low = h k.0 in omega (arith, low, k.1)
 
 module _ (rows : List Named) (before : List Numbered) (l : Numbered) where
@@ -100,7 +100,7 @@ no_rest_fault ls f all h = none_refused TakesSelection RefusesSelection selectio
 one_rest_fault : (ls : List Numbered) (f g : QueryFault) → IsFirstRefusal TakesSelection RefusesSelection ls f → IsFirstRefusal TakesSelection RefusesSelection ls g → f ≡ g
 one_rest_fault ls f g h k = one_refused TakesSelection RefusesSelection selection_apart selection_one ls f g h k
 
-one_fields : (fields : List Text) (f g : Fields) → AreSix fields f → AreSix fields g → f ≡ g
+pub one_fields : (fields : List Text) (f g : Fields) → AreSix fields f → AreSix fields g → f ≡ g
 one_fields fields f g h k =
     let e : f.network ∷ f.station ∷ f.location ∷ f.channel ∷ f.start ∷ f.end ∷ [] ≡ g.network ∷ g.station ∷ g.location ∷ g.channel ∷ g.start ∷ g.end ∷ [] = sym h ∙ k in
     let network : f.network ≡ g.network = cc in
@@ -197,7 +197,7 @@ no_why body q fault h (none a k) = let empty = ap length k.none in omega (arith,
 no_fault : (body : Text) (q : DataQuery) (fault : QueryFault) → IsDataPost body q → IsPostFault body fault → ⊥
 no_fault body q fault h k = no_why body q fault h (why body fault k)
 
-only_post : (body : Text) (answer : Result DataQuery QueryFault) → MatchResult answer (IsDataPost body) (IsPostFault body) → IsOnly (IsDataPost body) (IsPostFault body) answer
+pub only_post : (body : Text) (answer : Result DataQuery QueryFault) → MatchResult answer (IsDataPost body) (IsPostFault body) → IsOnly (IsDataPost body) (IsPostFault body) answer
 only_post body answer right = only_from (IsDataPost body) (IsPostFault body) (one_query body) (one_fault body) (no_fault body) answer right
 
 pub only_read : (body : Text) (q : DataQuery) → IsDataPost body q → IsOnly (IsDataPost body) (IsPostFault body) (Ok q)

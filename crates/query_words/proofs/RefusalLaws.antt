@@ -1,5 +1,5 @@
--- The first refused element is one alone.
-use Rattle.std.proofs.Common.{◌≡◌, List, [], ◌∷◌, ◌++◌, sym, subst, ◌∙◌}
+-- The first refused element is one alone, and there is one where not all are taken.
+use Rattle.std.proofs.Common.{◌≡◌, ◌⊎◌, inl, inr, List, [], ◌∷◌, ◌++◌, refl, sym, subst, ◌∙◌}
 use Rattle.std.proofs.lemmas.List.{append_assoc, append-nil}
 use Rattle.query_words.specs.FirstRefusals.{AreTaken, IsFirstRefusal}
 
@@ -42,3 +42,18 @@ module _ {A F : Type 0} (Takes : List A → A → Type 0) (Refuses : List A → 
   -- a first fault is one alone
   pub one_refused : (xs : List A) (f g : F) → IsFirstRefusal Takes Refuses xs f → IsFirstRefusal Takes Refuses xs g → f ≡ g
   one_refused xs f g h k = one_at [] h.before k.before h.here k.here h.after k.after f g h.taken k.taken h.refused k.refused (sym h.split ∙ k.split)
+
+-- where each element is taken or refused, a list is taken whole or has a first refusal
+module _ {A F : Type 0} (Takes : List A → A → Type 0) (Refuses : List A → A → F → Type 0)
+    (each : (before : List A) (x : A) → Takes before x ⊎ ((fault : F) × Refuses before x fault)) where
+  rest_or_refused : (done xs : List A) → AreTaken Takes [] done → AreTaken Takes [] (done ++ xs) ⊎ ((fault : F) × IsFirstRefusal Takes Refuses (done ++ xs) fault)
+  rest_or_refused done [] all = inl (subst (λ (ys : List A). AreTaken Takes [] ys) (sym (append-nil done)) all)
+  rest_or_refused done (x ∷ xs) all =
+      elim (each done x) [
+        | inr wrong ↦ inr (wrong.0, record { before = done; here = x; after = xs; split = refl; taken = all; refused = wrong.1 })
+        | inl right ↦ subst (λ (ys : List A). AreTaken Takes [] ys ⊎ ((fault : F) × IsFirstRefusal Takes Refuses ys fault)) (append_assoc done (x ∷ []) xs)
+            (rest_or_refused (done ++ x ∷ []) xs (taken_more Takes [] done x all right))
+      ]
+
+  pub taken_or_refused : (xs : List A) → AreTaken Takes [] xs ⊎ ((fault : F) × IsFirstRefusal Takes Refuses xs fault)
+  taken_or_refused xs = rest_or_refused [] xs tt

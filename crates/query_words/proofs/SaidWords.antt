@@ -75,7 +75,7 @@ pub quality_said : (given : Option Text) (held : Option Word) → IsHeld kind.Qu
 quality_said None held h = ap (λ (o : Option Word). Some (quality_word o)) (sym h)
 quality_said (Some text) held h = quality_text text h.0 h.2 ∙ ap (λ (o : Option Word). Some (quality_word o)) (sym h.1)
 
-no_minimum : IsMinimum (codes "0") 0
+pub no_minimum : IsMinimum (codes "0") 0
 no_minimum = record {
   decimal = record {
     sign = Unsigned;

@@ -2,8 +2,9 @@
 //!
 //! What the crates above use: [`data_get`] reads a query string and [`data_post`] a body. Each answers
 //! Ok exactly where the text spells that query (`IsDataGet` of `specs/DataGet.antt`, `IsDataPost` of
-//! `specs/DataPost.antt`), and else the one fault that the text has (`IsGetFault`, `IsPostFault`): no
-//! text has two answers. Only [`QueryFault::OutOfMemory`] needs no cause.
+//! `specs/DataPost.antt`), and else the one fault that the text has (`IsGetFault`, `IsPostFault`): by
+//! those definitions each text has exactly one answer (`src/law.rt`). Only
+//! [`QueryFault::OutOfMemory`] needs no cause.
 //!
 //! A query string is a list of parameters, decoded as web forms are (`specs/Parameters.antt`). Which
 //! names a method has, and what kind of value each takes, stands in a table of rows
@@ -23,6 +24,7 @@ mod asked;
 mod fault;
 mod front;
 mod get;
+mod law;
 mod lines;
 mod post;
 mod rows;
@@ -34,5 +36,6 @@ mod words;
 
 pub use fault::QueryFault;
 pub use get::data_get;
+pub use law::{a_body_is_one_query_or_one_fault, a_query_string_is_one_query_or_one_fault};
 pub use post::data_post;
 pub use values::{BadValue, read_longest, read_minimum, read_nodata, read_quality, read_whole};

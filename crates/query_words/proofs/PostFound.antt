@@ -1,0 +1,222 @@
+-- Every body asks for one query, or has one fault.
+use Rattle.std.proofs.Common.{◌≡◌, ◌⊎◌, inl, inr, suc, ◌<◌, List, [], ◌∷◌, ◌++◌, Option, Some, None, Result, Ok, Err, length, refl, sym, subst, ◌∙◌, codes, arith}
+use Rattle.std.specs.Str.{IsAscii, IsNotAscii}
+use Rattle.std.proofs.lemmas.Bool.{cases_Bool, cases_lt, both_ways}
+use Rattle.std.proofs.lemmas.List.{map-append}
+use Rattle.std.proofs.lemmas.Str.Ascii.{IsAscii-nil, IsAscii-cons}
+use Rattle.list_laws.specs.Only.{IsOnly}
+use Rattle.exact_time.specs.declared.moment.Moment.{Moment}
+use Rattle.channel_globs.specs.declared.nslc.Part.TheVariants.{Network, Station, Location, Channel}
+use Rattle.dataselect.specs.declared.query.DataQuery.{DataQuery}
+use Rattle.dataselect.specs.declared.query.Selection.{Selection}
+use Rattle.query_words.specs.Bodies.{Numbered, Fields, AreSix, AreFields, IsWindow, IsSelection, AreSelections, TakesLine, RefusesLine, TakesSelection, RefusesSelection, parameters_in, parameter_of, front_of, rest_of, fields_of, has_equals, limit_text}
+use Rattle.query_words.specs.DataGet.{IsLimit, AreOptions}
+use Rattle.query_words.specs.DataPost.{AreFew, IsRightFront, IsDataPost, IsWrongFront, IsWrongRest, IsPostFault}
+use Rattle.query_words.specs.FirstRefusals.{AreTaken}
+use Rattle.query_words.specs.Parameters.{Parameter, given, TakesParameter, RefusesParameter}
+use Rattle.query_words.specs.Rows.{Text, Named, data_options}
+use Rattle.query_words.specs.declared.fault.QueryFault.{QueryFault}
+use Rattle.query_words.specs.declared.fault.QueryFault.TheVariants.{TooMany, Unknown, Repeated, OutOfScope, Value, Line, Order, NoLine, OutOfMemory}
+use Rattle.query_words.specs.declared.rows.Kind.TheVariants as kind
+use Rattle.query_words.proofs.GetFound.{given_reads, default_reads, options_by, no_nodata, no_quality, no_seconds, no_flag, in_time_or_backwards}
+use Rattle.query_words.proofs.OneDataGet.{one_limit, not_backwards}
+use Rattle.query_words.proofs.OneDataPost.{not_both, one_fields, only_post}
+use Rattle.query_words.proofs.RefusalLaws.{taken_or_refused}
+use Rattle.query_words.proofs.ValuesFound.{Found, moment_found, list_found, parameter_found}
+
+ascii_or_not : (text : Text) → IsAscii text ⊎ IsNotAscii text
+ascii_or_not [] = inl IsAscii-nil
+ascii_or_not (c ∷ cs) =
+    elim (cases_lt c 128) [
+      | inr high ↦ inr (0, high)
+      | inl low ↦ elim (ascii_or_not cs) [ inl all ↦ inl (IsAscii-cons c cs low all) | inr other ↦ inr (suc other.0, other.1) ]
+    ]
+
+line_refused : (rows : List Named) (before : List Numbered) (l : Numbered) → IsAscii l.text → (fault : QueryFault) → RefusesParameter rows (parameters_in before) (parameter_of l) fault → RefusesLine rows before l fault
+line_refused rows before l ascii (Unknown n) h = (ascii, h)
+line_refused rows before l ascii (Repeated n) h = (ascii, h)
+line_refused rows before l ascii (OutOfScope n) h = (ascii, h)
+line_refused rows before l ascii (Value n) h = (ascii, h)
+line_refused rows before l ascii TooMany h = h
+line_refused rows before l ascii (Line n) h = absurd h
+line_refused rows before l ascii Order h = h
+line_refused rows before l ascii NoLine h = h
+line_refused rows before l ascii OutOfMemory h = h
+
+-- a parameter line is taken behind those before it, or refused
+line_found : (rows : List Named) (before : List Numbered) (l : Numbered) → TakesLine rows before l ⊎ ((fault : QueryFault) × RefusesLine rows before l fault)
+line_found rows before l =
+    elim (ascii_or_not l.text) [
+      | inr other ↦ inr (Line l.number, (refl, other))
+      | inl ascii ↦ elim (parameter_found rows (parameters_in before) (parameter_of l)) [
+        | inl takes ↦ inl (record { ascii = ascii; takes = takes })
+        | inr wrong ↦ inr (wrong.0, line_refused rows before l ascii wrong.0 wrong.1)
+      ]
+    ]
+
+six_found : (fields : List Text) → Found (AreSix fields)
+six_found (a ∷ b ∷ c ∷ d ∷ e ∷ f ∷ []) = inl (record { network = a; station = b; location = c; channel = d; start = e; end = f }, refl)
+six_found [] = inr (λ fields is. cc)
+six_found (a ∷ []) = inr (λ fields is. cc)
+six_found (a ∷ b ∷ []) = inr (λ fields is. cc)
+six_found (a ∷ b ∷ c ∷ []) = inr (λ fields is. cc)
+six_found (a ∷ b ∷ c ∷ d ∷ []) = inr (λ fields is. cc)
+six_found (a ∷ b ∷ c ∷ d ∷ e ∷ []) = inr (λ fields is. cc)
+six_found (a ∷ b ∷ c ∷ d ∷ e ∷ f ∷ g ∷ more) = inr (λ fields is. cc)
+
+limit_found : (text : Option Text) → Found (IsLimit text)
+limit_found None = inl (None, refl)
+limit_found (Some text) =
+    elim (moment_found text) [
+      | inl is ↦ inl (Some (record { micros = is.0 }), (record { micros = is.0 }, refl, is.1))
+      | inr none ↦ inr (λ limit h. none h.0.micros h.2)
+    ]
+
+window_found : (f : Fields) → Found (λ (w : Option Moment × Option Moment). IsWindow f w.0 w.1)
+window_found f =
+    elim (limit_found (limit_text f.start)) [
+      | inr none ↦ inr (λ w h. none w.0 h.start_is)
+      | inl start ↦ elim (limit_found (limit_text f.end)) [
+        | inr none ↦ inr (λ w h. none w.1 h.end_is)
+        | inl end ↦ elim (in_time_or_backwards start.0 end.0) [
+          | inl forwards ↦ inl ((start.0, end.0), record { start_is = start.1; end_is = end.1; in_time = forwards })
+          | inr turned ↦ inr (λ w h.
+              let first = one_limit (limit_text f.start) w.0 start.0 h.start_is start.1 ∙ turned.2 in
+              let second = one_limit (limit_text f.end) w.1 end.0 h.end_is end.1 ∙ turned.3 in
+              not_backwards w.0 w.1 turned.0 turned.1 first second h.in_time turned.4)
+        ]
+      ]
+    ]
+
+fields_found : (f : Fields) → Found (AreFields f)
+fields_found f =
+    elim (list_found Network f.network) [
+      | inr none ↦ inr (λ s h. none s.network h.code_fields.network_is)
+      | inl network ↦ elim (list_found Station f.station) [
+        | inr none ↦ inr (λ s h. none s.station h.code_fields.station_is)
+        | inl station ↦ elim (list_found Location f.location) [
+          | inr none ↦ inr (λ s h. none s.location h.code_fields.location_is)
+          | inl location ↦ elim (list_found Channel f.channel) [
+            | inr none ↦ inr (λ s h. none s.channel h.code_fields.channel_is)
+            | inl channel ↦ elim (window_found f) [
+              | inr none ↦ inr (λ s h. none (s.start, s.end) h.window)
+              | inl window ↦ inl (
+                record { network = network.0; station = station.0; location = location.0; channel = channel.0; start = window.0.0; end = window.0.1 },
+                record { code_fields = record { network_is = network.1; station_is = station.1; location_is = location.1; channel_is = channel.1 }; window = window.1 },
+              )
+            ]
+          ]
+        ]
+      ]
+    ]
+
+-- a text spells a selection, or none
+selection_found : (text : Text) → Found (IsSelection text)
+selection_found text =
+    elim (ascii_or_not text) [
+      | inr other ↦ inr (λ s h. not_both text h.ascii other)
+      | inl ascii ↦ elim (cases_Bool (has_equals text)) [
+        | inl equals ↦ inr (λ s h. h.no_equals equals)
+        | inr none ↦ elim (six_found (fields_of text)) [
+          | inr no_six ↦ inr (λ s h. no_six h.fields h.fields_are)
+          | inl six ↦ elim (fields_found six.0) [
+            | inr no_spelling ↦ inr (λ s h. no_spelling s (subst (λ (f : Fields). AreFields f s) (one_fields (fields_of text) h.fields six.0 h.fields_are six.1) h.spells))
+            | inl spells ↦ inl (spells.0, record { ascii = ascii; no_equals = both_ways (has_equals text) none; fields = six.0; fields_are = six.1; spells = spells.1 })
+          ]
+        ]
+      ]
+    ]
+
+-- a selection line is taken, or refused
+line_selects : (before : List Numbered) (l : Numbered) → TakesSelection before l ⊎ ((fault : QueryFault) × RefusesSelection before l fault)
+line_selects before l = elim (selection_found l.text) [ inl found ↦ inl found | inr none ↦ inr (Line l.number, (refl, none)) ]
+
+-- taken selection lines spell selections
+selections_of : (before ls : List Numbered) → AreTaken TakesSelection before ls → (ss : List Selection) × AreSelections ls ss
+selections_of before [] taken = ([], tt)
+selections_of before (l ∷ ls) taken =
+    let others = selections_of (before ++ l ∷ []) ls taken.1 in
+    (taken.0.0 ∷ others.0, (taken.0.1, others.1))
+
+-- the parameters of taken lines are taken
+parameters_taken : (rows : List Named) (before ls : List Numbered) → AreTaken (TakesLine rows) before ls → AreTaken (TakesParameter rows) (parameters_in before) (parameters_in ls)
+parameters_taken rows before [] taken = tt
+parameters_taken rows before (l ∷ ls) taken = (
+  taken.0.takes,
+  subst (λ (ps : List Parameter). AreTaken (TakesParameter rows) ps (parameters_in ls)) (map-append parameter_of before (l ∷ [])) (parameters_taken rows (before ++ l ∷ []) ls taken.1),
+)
+
+options_found : (ps : List Parameter) → AreTaken (TakesParameter data_options) [] ps → (selections : List Selection) → (q : DataQuery) × (q.selections ≡ selections) × AreOptions data_options ps q
+options_found ps taken selections =
+    options_by data_options ps selections (default_reads kind.Nodata (codes "204") no_nodata (given data_options 0 ps) (given_reads data_options 0 [] ps taken))
+    (default_reads kind.Quality (codes "B") no_quality (given data_options 1 ps) (given_reads data_options 1 [] ps taken))
+    (default_reads kind.Seconds (codes "0") no_seconds (given data_options 2 ps) (given_reads data_options 2 [] ps taken))
+    (default_reads kind.Flag (codes "false") no_flag (given data_options 3 ps) (given_reads data_options 3 [] ps taken))
+
+abbrev Answer : Text → Type 0
+Answer body = (answer : Result DataQuery QueryFault) × IsOnly (IsDataPost body) (IsPostFault body) answer
+
+some_or_nothing : (ls : List Numbered) → (0 < length ls) ⊎ (ls ≡ [])
+some_or_nothing [] = inr refl
+some_or_nothing (l ∷ ls) = inl (omega arith)
+
+-- right lines ask for a query, or none of them selects
+right_answer : (body : Text) → IsRightFront body → AreTaken TakesSelection [] (rest_of body) → Answer body
+right_answer body right taken =
+    elim (some_or_nothing (rest_of body)) [
+      | inr nothing ↦ (Err NoLine, only_post body (Err NoLine) (record { right = right; none = nothing }))
+      | inl some ↦
+          let ss = selections_of [] (rest_of body) taken in
+          let q = options_found (parameters_in (front_of body)) (parameters_taken data_options [] (front_of body) right.taken) ss.0 in (
+            Ok q.0,
+            only_post body (Ok q.0) (record {
+              right = right;
+              selections_are = subst (λ (xs : List Selection). AreSelections (rest_of body) xs) (sym q.1) ss.1;
+              some = some;
+              options = q.2;
+            }),
+          )
+    ]
+
+wrong_front : (body : Text) → AreFew body → (fault : QueryFault) → IsWrongFront body fault → IsPostFault body fault
+wrong_front body few (Unknown n) h = record { few = few; first = inl h }
+wrong_front body few (Repeated n) h = record { few = few; first = inl h }
+wrong_front body few (OutOfScope n) h = record { few = few; first = inl h }
+wrong_front body few (Value n) h = record { few = few; first = inl h }
+wrong_front body few (Line n) h = record { few = few; first = inl h }
+wrong_front body few TooMany h = absurd h.refused
+wrong_front body few Order h = h.refused
+wrong_front body few NoLine h = absurd h.refused
+wrong_front body few OutOfMemory h = h.refused
+
+wrong_rest : (body : Text) → AreFew body → (fault : QueryFault) → IsWrongRest body fault → IsPostFault body fault
+wrong_rest body few (Line n) h = record { few = few; first = inr h }
+wrong_rest body few (Unknown n) h = absurd h.first.refused
+wrong_rest body few (Repeated n) h = absurd h.first.refused
+wrong_rest body few (OutOfScope n) h = absurd h.first.refused
+wrong_rest body few (Value n) h = absurd h.first.refused
+wrong_rest body few TooMany h = absurd h.first.refused
+wrong_rest body few Order h = h.first.refused
+wrong_rest body few NoLine h = absurd h.first.refused
+wrong_rest body few OutOfMemory h = h.first.refused
+
+few_answer : (body : Text) → AreFew body → Answer body
+few_answer body few =
+    elim (taken_or_refused (TakesLine data_options) (RefusesLine data_options) (line_found data_options) (front_of body)) [
+      | inr first ↦ (Err first.0, only_post body (Err first.0) (wrong_front body few first.0 first.1))
+      | inl front ↦ elim (taken_or_refused TakesSelection RefusesSelection line_selects (rest_of body)) [
+        | inr first ↦ (Err first.0, only_post body (Err first.0) (wrong_rest body few first.0 (record { taken = front; first = first.1 })))
+        | inl rest ↦ right_answer body (record { few = few; taken = front }) rest
+      ]
+    ]
+
+-- every body is one query, or has one fault
+pub post_or_fault : (body : Text) → Answer body
+post_or_fault body =
+    elim (cases_lt 1000 (length (front_of body))) [
+      | inl many ↦ (Err TooMany, only_post body (Err TooMany) (inl many))
+      | inr parameters ↦ elim (cases_lt 10_000 (length (rest_of body))) [
+        | inl many ↦ (Err TooMany, only_post body (Err TooMany) (inr many))
+        | inr selections ↦ few_answer body (record { parameters = parameters; selections = selections })
+      ]
+    ]
