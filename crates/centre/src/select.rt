@@ -7,10 +7,11 @@ ghost use Rattle.centre.specs.Answers.{IsBodyOf, RefusesInput, RefusesRecords, e
 ghost use Rattle.centre.specs.Words.{StopsWith};
 
 use crate::ending::{Refusal, Stop};
-use dataselect::{All, DataQuery, DataRefusal, PlainShelf, Shelf, answer};
+use dataselect::{All, DataQuery, DataRefusal, Shelf, answer};
 use exact_time::{Bytes, Many, Moment, OutOfMemory};
 use mseed_header::{CutFault, Row, cut_records};
 use std::alloc::Global;
+use time_index::IndexedShelf;
 
 // The input's records, as rows of entry 0 at the moment 0.
 fn rows_of(alloc: Global, input: &[u8]) -> Result<Many<Row>, Stop>
@@ -44,7 +45,7 @@ pub fn body_of(alloc: Global, query: &DataQuery, limit: u64, input: &[u8]) -> Re
     ensures err { IfErr result (StopsWith (RefusesInput query.now limit input.now)) }
 {
     let rows = rows_of(alloc, input)?;
-    let mut shelf = PlainShelf::new(alloc);
+    let mut shelf = IndexedShelf::new(alloc);
     shelve(&mut shelf, rows)?;
     match answer(alloc, &shelf, &All, query, limit) {
         Ok(body) => Ok(body),

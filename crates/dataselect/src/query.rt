@@ -44,7 +44,8 @@ pub struct DataQuery {
 }
 
 impl Selection {
-    fn names(&self, name: &Nslc) -> bool
+    /// Whether the four codes match.
+    pub fn names(&self, name: &Nslc) -> bool
         ensures { result ≡ is_named self.now name.now }
     {
         self.network.matches(&name.network)

@@ -130,6 +130,7 @@ fn the_longest_of_two_names(rt: HostRuntime) -> Result<(), Fail> {
 fn refuses_options(rt: HostRuntime) -> Result<(), Fail> {
     let exceed = "centre: 512 bytes exceed 511\n";
     check_refused(&rt, &["--max-bytes", "511"], 4, exceed)?;
+    check_refused(&rt, &["--quality", "R"], 3, NO_DATA)?;
     check_refused(
         &rt,
         &["--quality", "X"],

@@ -1,0 +1,4 @@
+pub mod Doubles
+pub mod Index
+pub mod Spots
+pub mod Windows

@@ -1,0 +1,143 @@
+//! The shelf.
+ghost use Rattle.std.specs.Prelude.{◌≡◌, ℕ, ◌^◌, ◌<◌, ◌≤◌, true, [], ◌∷◌, ◌++◌, length, IfOk, OnOk, OnErr};
+ghost use Rattle.std.specs.Vec.{vec_len, vec_capacity};
+ghost use Rattle.dataselect.specs.Chosen.{chosen_places};
+ghost use Rattle.dataselect.specs.Rows.{has_image};
+ghost use Rattle.time_index.specs.Index.{IsIndex};
+ghost use Rattle.time_index.specs.Spots.{spot_at};
+ghost use Rattle.time_index.specs.Windows.{Cover, is_among};
+
+use crate::channels::{Channel, add_spot};
+use crate::doubles::is_twin;
+use crate::spot::{Spot, micros_lasted, spot_of};
+use crate::windows::{candidates, ranks_at};
+use channel_globs::Nslc;
+use dataselect::{DataQuery, Inserted, Selection, Shelf, Sight, pick, places_of};
+use exact_time::{Many, OutOfMemory};
+use mseed_header::Row;
+use std::alloc::Global;
+use std::collections::BTreeMap;
+
+/// A shelf that finds its rows by channel and time. An insertion costs a logarithm, and a query the rows
+/// of its windows. A sender who makes many records of one channel with one start and one fingerprint
+/// costs time alone: each of them is compared with the others byte by byte.
+#[derive(Drop)]
+pub struct IndexedShelf {
+    alloc: Global,
+    rows: Vec<Row>,
+    channels: BTreeMap<Nslc, Channel>,
+    ghost few: { length rows.items ≤ 2 ^ 32 },
+    ghost index: { IsIndex rows.items channels },
+}
+
+// Puts a row at the end, where there is room for it.
+fn put(rows: &mut Vec<Row>, row: Row)
+    requires room { vec_len rows.old < vec_capacity rows.old }
+    ensures { rows.new.items ≡ rows.old.items ++ row ∷ [] }
+{
+    match rows.push(row) {
+        Ok(()) => (),
+        Err(_) => (),
+    }
+}
+
+// The places of all rows.
+fn all_places(alloc: Global, len: usize) -> Result<Many<usize>, OutOfMemory>
+    ensures { IfOk result (λ places. (i : ℕ) → i < len → is_among i places ≡ true) }
+{
+    let mut places = Many::new(alloc);
+    'places: for place in 0..len {
+        places.push(place)?;
+    }
+    Ok(places)
+}
+
+impl IndexedShelf {
+    /// A shelf without rows. Takes no memory.
+    pub fn new(alloc: Global) -> Self
+        ensures { ⟦<IndexedShelf as Shelf>⟧.rows result ≡ [] }
+    {
+        IndexedShelf {
+            alloc,
+            rows: Vec::new(alloc),
+            channels: BTreeMap::new(alloc),
+        }
+    }
+
+    // Whether some row has the bytes of this one, whose spot it would be at the end.
+    fn is_held(&self, row: &Row, spot: Spot) -> bool
+        requires spot { spot ≡ spot_at (length self.now.rows.items) row.now }
+        ensures { result ≡ has_image row.now.image self.now.rows.items }
+    {
+        is_twin(
+            &self.rows,
+            &self.channels,
+            &row.header.name,
+            spot,
+            row.image.as_slice(),
+        )
+    }
+
+    // Puts a row at the end. The room is taken first, so that the last step can't fail.
+    fn keep(&mut self, row: Row, spot: Spot) -> Result<(), OutOfMemory>
+        requires few { length self.old.rows.items < 2 ^ 32 }
+        requires spot { spot ≡ spot_at (length self.old.rows.items) row }
+        ensures ok { OnOk result (self.new.rows.items ≡ self.old.rows.items ++ row ∷ []) }
+        ensures err { OnErr result (self.new.rows.items ≡ self.old.rows.items) }
+    {
+        self.rows.reserve(1)?;
+        let header = row.header;
+        let longest = micros_lasted(&header);
+        add_spot(self.alloc, &mut self.channels, header.name, spot, longest)?;
+        put(&mut self.rows, row);
+        Ok(())
+    }
+
+    // Places among which are those of all rows that some selection selects. Where many selections name
+    // the same rows, a walk over all rows is no dearer.
+    fn places_to_test(&self, selections: &[Selection]) -> Result<Many<usize>, OutOfMemory>
+        ensures { IfOk result (λ places. Cover self.now.rows.items selections.now places) }
+    {
+        match candidates(self.alloc, &self.channels, selections, self.rows.len())? {
+            Some(places) => Ok(places),
+            None => all_places(self.alloc, self.rows.len()),
+        }
+    }
+
+    // The places of the chosen rows, in their order.
+    fn chosen<V: Sight>(&self, sight: &V, query: &DataQuery) -> Result<Many<usize>, OutOfMemory>
+        ensures { IfOk result (λ places. places ≡ chosen_places (V.seen sight.now) query.now self.now.rows.items) }
+    {
+        let places = self.places_to_test(query.selections.as_slice())?;
+        let ranks = ranks_at(self.alloc, &self.rows, places.as_slice(), sight, query)?;
+        places_of(self.alloc, &ranks)
+    }
+}
+
+impl Shelf for IndexedShelf {
+    ghost rows = { λ s. s.rows.items };
+
+    fn len(&self) -> usize {
+        self.rows.len()
+    }
+
+    fn row(&self, i: usize) -> &Row {
+        &self.rows[i]
+    }
+
+    fn insert(&mut self, row: Row) -> Result<Inserted, OutOfMemory> {
+        let spot = spot_of(self.rows.len(), &row);
+        if self.is_held(&row, spot) {
+            return Ok(Inserted::Duplicate);
+        }
+        self.keep(row, spot)?;
+        Ok(Inserted::New)
+    }
+
+    fn choose<V: Sight>(&self, sight: &V, query: &DataQuery) -> Result<Many<usize>, OutOfMemory> {
+        let places = self.chosen(sight, query)?;
+        pick(self.alloc, self.rows.as_slice(), places.as_slice(), query)
+    }
+
+    ghost few = { λ s. s.few };
+}

@@ -1,0 +1,4 @@
+//! Tests of the shelf against the plain one.
+mod alike;
+mod many;
+mod records;
