@@ -1,0 +1,10 @@
+pub mod ImageSteps
+pub mod Overwrites
+pub mod Sound
+pub mod Past
+pub mod MemoryCalls
+pub mod Fills
+pub mod Moments
+pub mod Leaving
+pub mod Marking
+pub mod Examples

@@ -1,0 +1,10 @@
+pub mod Changes
+pub mod Choices
+pub mod Disk
+pub mod Fuse
+pub mod Images
+pub mod Marked
+pub mod Memory
+pub mod MemoryLaws
+pub mod Sound
+pub mod Untold

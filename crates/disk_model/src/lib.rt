@@ -1,0 +1,38 @@
+//! A disk that may crash at any moment: the base under the archive's journal.
+//!
+//! What the crate above uses: the trait [`Disk`], whose words are in `specs/Disk.antt`. A disk tells what
+//! a read gives, which images a crash now may leave, and which a crash at some moment since an earlier
+//! one might have left; each call says how these go on, whether it answers Ok or fails. That every image
+//! at every moment of a run has a property is `AlwaysLeaves`, and the lemmas by which it goes on from
+//! call to call are `proofs/Moments.antt` (the time), `proofs/Leaving.antt` (from the images before a
+//! call to those after it) and `proofs/Overwrites.antt` (what a torn write is, byte by byte).
+//! [`write_through`] is a write and a sync with such a clause, and [`add_and_mark`] a worked run over any
+//! disk, which goes as a journal's commit does.
+//!
+//! The definition: `specs/Images.antt` states outright which files a crash may leave, from the file at
+//! the last sync, the least and the greatest length since, and the bytes written since. [`MemoryDisk`] is
+//! that definition (`specs/Changes.antt`, from the list of all changes), and is proved to be a [`Disk`];
+//! in the other direction `proofs/Leaving.antt` brings the definition to every disk by the trait's
+//! clauses alone. [`FuseDisk`] stops a disk in memory after so many calls. [`FileDisk`] is a real file,
+//! which counts its errors and tells nothing.
+#![tactic(auto)]
+
+mod change;
+mod choice;
+mod disk;
+mod file;
+mod fuse;
+mod law;
+mod memory;
+mod replay;
+#[cfg(test)]
+mod tests;
+mod through;
+
+pub use choice::Choice;
+pub use disk::Disk;
+pub use file::FileDisk;
+pub use fuse::FuseDisk;
+pub use law::add_and_mark;
+pub use memory::MemoryDisk;
+pub use through::write_through;
