@@ -1,0 +1,54 @@
+-- What the readers of fields answer.
+use Rattle.std.specs.Prelude.{◌≡◌, ◌≤◌, ◌+◌, ◌-◌, ℕ, List, length, ⊤}
+use Rattle.channel_globs.specs.declared.patterns.GlobFault.{GlobFault}
+use Rattle.channel_globs.specs.declared.patterns.GlobFault.TheVariants as glob
+use Rattle.epochs.specs.Kinds.{Text, FieldKind, Head, head_texts, fields_behind}
+use Rattle.epochs.specs.Fields.{Value}
+use Rattle.epochs.specs.Lines.{Entry, SpellsNone, IsFirstBad, AreValues, IsInOrder}
+use Rattle.epochs.specs.declared.fault.LineFault.TheVariants.{Fields, Value as BadValue, Order}
+use Rattle.epochs.specs.declared.values.ReadFault.{ReadFault}
+use Rattle.epochs.specs.declared.values.ReadFault.TheVariants.{Bad, OutOfMemory}
+
+-- the field of this number is bad
+abbrev pub bad_value : ℕ → ReadFault
+bad_value number = Bad (BadValue number)
+
+-- why the field of this number wasn't read: it spells no value; want of memory is free
+abbrev pub RefusesField : FieldKind → ℕ → Text → ReadFault → Type 0
+RefusesField kind number text (Bad (BadValue n)) = (n ≡ number) × SpellsNone kind text
+RefusesField kind number text (Bad _) = ⊥
+RefusesField kind number text OutOfMemory = ⊤
+
+-- why fields, numbered from this number on, weren't read: one of them is the first that spells no
+-- value; want of memory is free
+abbrev pub RefusesFields : List FieldKind → ℕ → List Text → ReadFault → Type 0
+RefusesFields kinds first texts (Bad (BadValue n)) = (first ≤ n) × IsFirstBad kinds texts (n - first)
+RefusesFields kinds first texts (Bad _) = ⊥
+RefusesFields kinds first texts OutOfMemory = ⊤
+
+-- the fields behind a head spell this entry
+pub record IsSpelled (head : Head) (rest : List Text) (e : Entry) : Type 0 where
+  pub head_is : e.head ≡ head
+  pub spells : AreValues (fields_behind head) rest e.values
+  pub in_order : IsInOrder e.values
+
+-- the fields behind a head are right, but the end isn't after the start
+pub record IsBackward (head : Head) (rest : List Text) : Type 0 where
+  pub values : List Value
+  pub spells : AreValues (fields_behind head) rest values
+  pub backward : ¬ (IsInOrder values)
+
+-- why the fields behind a head weren't read; want of memory is free
+abbrev pub RefusesBehind : Head → List Text → ReadFault → Type 0
+RefusesBehind head rest (Bad Fields) = ¬ (length rest ≡ length (fields_behind head))
+RefusesBehind head rest (Bad (BadValue n)) = RefusesFields (fields_behind head) (length (head_texts head) + 1) rest (bad_value n)
+RefusesBehind head rest (Bad Order) = IsBackward head rest
+RefusesBehind head rest (Bad _) = ⊥
+RefusesBehind head rest OutOfMemory = ⊤
+
+-- how a fault of a pattern list is one of its field
+abbrev pub list_fault : ℕ → GlobFault → ReadFault
+list_fault number glob.TooMany = bad_value number
+list_fault number glob.Character = bad_value number
+list_fault number glob.Length = bad_value number
+list_fault number glob.OutOfMemory = OutOfMemory
