@@ -33,7 +33,7 @@ mod writing;
 pub use civil::btime;
 pub use compare::{cmp_sample_time, cmp_times, gap_at_most, lateness, overlap_at_most, parts};
 pub use decimal::{Decimal, are_digits, number_of};
-pub use error::{Failed, OutOfMemory};
+pub use error::{Failed, OutOfMemory, TextRefusal};
 pub use fields::BTime;
 pub use growing::{Bytes, Many, Text};
 pub use law::a_text_is_one_value_or_one_fault;

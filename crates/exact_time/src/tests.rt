@@ -2,8 +2,8 @@
 ghost use Rattle.exact_time.specs.Written.{IsWritable};
 
 use crate::{
-    BTime, Bytes, Decimal, Many, Moment, OutOfMemory, Ratio, SampleTime, Text, TimeFault,
-    are_digits, btime, cmp_sample_time, cmp_times, gap_at_most, lateness, number_of,
+    BTime, Bytes, Decimal, Many, Moment, OutOfMemory, Ratio, SampleTime, Text, TextRefusal,
+    TimeFault, are_digits, btime, cmp_sample_time, cmp_times, gap_at_most, lateness, number_of,
     overlap_at_most, parts,
 };
 use std::alloc::Global;
@@ -334,5 +334,21 @@ fn grows(rt: HostRuntime) -> Result<(), OutOfMemory> {
     assert_eq!(rt; many.pop().is_some_and(|last| last.is_empty()), true);
     assert!(rt; many.len() == 1 && !many.is_empty() && many.as_slice().len() == 1);
     assert_eq!(rt; many.into_vec().len(), 1);
+    Ok(())
+}
+
+#[test]
+fn writes_refusals_of_texts(rt: HostRuntime) -> Result<(), OutOfMemory> {
+    let mut text = Text::new(rt.alloc());
+    text.push("IU|GSN")?;
+    assert_eq!(rt; text.as_str(), "IU|GSN");
+    for (refusal, wanted) in [
+        (TextRefusal::Empty, "no data"),
+        (TextRefusal::TooLarge(3), "3 lines exceed the limit"),
+        (TextRefusal::from(OutOfMemory), "out of memory"),
+    ] {
+        let shown = format!(in rt.alloc(); "{refusal}")?;
+        assert_eq!(rt; shown.as_str(), wanted);
+    }
     Ok(())
 }
