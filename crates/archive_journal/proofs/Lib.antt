@@ -1,0 +1,10 @@
+pub mod FrameLists
+pub mod Adding
+pub mod Heads
+pub mod Walking
+pub mod Runs
+pub mod Readings
+pub mod Describing
+pub mod Kept
+pub mod Entries
+pub mod Examples

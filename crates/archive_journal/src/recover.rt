@@ -1,0 +1,133 @@
+//! Finds the frames of a file that a crash may have left, by reading alone.
+ghost use Rattle.std.specs.Prelude.{◌≡◌, ◌+◌, ◌^◌, ◌<◌, ◌≤◌, ℕ, List, true, length, take, drop, IfOk, IfErr, IfSome, OnOk, IsErrOf};
+ghost use Rattle.exact_time.specs.Causes.{Rose};
+ghost use Rattle.disk_model.specs.Disk.{Leaves, LeavesOnly, AlwaysLeaves};
+ghost use Rattle.archive_journal.specs.Frames.{magic};
+ghost use Rattle.archive_journal.specs.Recovery.{IsNext, IsFound, Explains};
+
+use crate::fault::RecoverFault;
+use crate::frame::{LIMIT, MAGIC, OPEN};
+use disk_model::Disk;
+use std::alloc::Global;
+
+// Where the gates stand in a file.
+#[derive(Drop)]
+pub(crate) struct Found {
+    // The offset of each payload's gate.
+    pub(crate) offsets: Vec<u64>,
+    // The offset of the closed gate behind them.
+    pub(crate) end: u64,
+}
+
+// What the first bytes at a gate say, up to 5, in a file of `len` bytes: the next gate's offset behind a
+// whole open frame, None at a closed gate, or that the file is damaged here.
+fn next_gate(head: &[u8], at: u64, len: u64) -> Result<Option<u64>, RecoverFault>
+    requires { at < 2 ^ 63 }
+    ensures next { (file : List ℕ) → head.now ≡ take 5 (drop at file) → len ≡ length file → IsNext (drop at file) at result }
+    ensures bound { IfOk result (λ next. IfSome next (λ next. (at < next) × (next ≤ len))) }
+    ensures damaged { IfErr result (λ fault. fault ≡ RecoverFault.Damaged at) }
+{
+    if head.is_empty() {
+        return Err(RecoverFault::Damaged(at));
+    }
+    if head[0] != OPEN {
+        return Ok(None);
+    }
+    if head.len() < 5 {
+        return Err(RecoverFault::Damaged(at));
+    }
+    let size = u32::from_be_bytes([head[1], head[2], head[3], head[4]]);
+    let next = at + 5 + size as u64;
+    if size == 0 || size > LIMIT || next > len {
+        return Err(RecoverFault::Damaged(at));
+    }
+    Ok(Some(next))
+}
+
+// Reads what stands at a gate.
+fn read_gate<D: Disk>(disk: &mut D, at: u64, len: u64) -> Result<Option<u64>, RecoverFault>
+    requires { at < 2 ^ 63 }
+    ensures tells { D.tells disk.new ≡ D.tells disk.old }
+    ensures next { D.tells disk.old ≡ true
+        → len ≡ length (D.seen disk.old) → IsNext (drop at (D.seen disk.old)) at result }
+    ensures bound { IfOk result (λ next. IfSome next (λ next. (at < next) × (next ≤ len))) }
+    ensures seen { D.tells disk.old ≡ true → D.seen disk.new ≡ D.seen disk.old }
+    ensures crash { D.tells disk.old ≡ true → Leaves (D.may_leave disk.new) (D.may_leave disk.old) }
+    ensures any_moment { D.tells disk.old ≡ true
+        → AlwaysLeaves D.moment D.left_since disk.old disk.new (D.may_leave disk.old) }
+    ensures later { D.faults disk.old ≤ D.faults disk.new }
+    ensures cause { IsErrOf result RecoverFault.DiskFault → Rose (D.faults disk.old) (D.faults disk.new) }
+{
+    let mut head = [0; 5];
+    let count = disk.read(at, &mut head)?;
+    next_gate(&head[..count], at, len)
+}
+
+// Tests the magic, and that there is a gate behind it.
+fn check_magic<D: Disk>(disk: &mut D) -> Result<(), RecoverFault>
+    ensures tells { D.tells disk.new ≡ D.tells disk.old }
+    ensures magic { D.tells disk.old ≡ true
+        → OnOk result ((17 ≤ length (D.seen disk.old)) × (take 16 (D.seen disk.old) ≡ magic)) }
+    ensures fault { D.tells disk.old ≡ true → IfErr result (Explains (D.seen disk.old)) }
+    ensures seen { D.tells disk.old ≡ true → D.seen disk.new ≡ D.seen disk.old }
+    ensures crash { D.tells disk.old ≡ true → Leaves (D.may_leave disk.new) (D.may_leave disk.old) }
+    ensures any_moment { D.tells disk.old ≡ true
+        → AlwaysLeaves D.moment D.left_since disk.old disk.new (D.may_leave disk.old) }
+    ensures later { D.faults disk.old ≤ D.faults disk.new }
+    ensures cause { IsErrOf result RecoverFault.DiskFault → Rose (D.faults disk.old) (D.faults disk.new) }
+{
+    let mut head = [0; 17];
+    let count = disk.read(0, &mut head)?;
+    if count < head.len() || !head.starts_with(&MAGIC) {
+        return Err(RecoverFault::NotAJournal);
+    }
+    Ok(())
+}
+
+// Goes from gate to gate up to the first that is closed, in a file of `len` bytes with the magic.
+fn walk<D: Disk>(alloc: Global, disk: &mut D, len: u64) -> Result<Found, RecoverFault>
+    requires len { (len < 2 ^ 63) × (D.tells disk.old ≡ true → len ≡ length (D.seen disk.old)) }
+    requires magic { D.tells disk.old ≡ true
+        → (17 ≤ length (D.seen disk.old)) × (take 16 (D.seen disk.old) ≡ magic) }
+    ensures tells { D.tells disk.new ≡ D.tells disk.old }
+    ensures bound { IfOk result (λ found. found.end < 2 ^ 63) }
+    ensures found { D.tells disk.old ≡ true
+        → IfOk result (λ found. IsFound (D.seen disk.old) found.offsets.items found.end) }
+    ensures fault { D.tells disk.old ≡ true → IfErr result (Explains (D.seen disk.old)) }
+    ensures seen { D.tells disk.old ≡ true → D.seen disk.new ≡ D.seen disk.old }
+    ensures crash { D.tells disk.old ≡ true → Leaves (D.may_leave disk.new) (D.may_leave disk.old) }
+    ensures any_moment { D.tells disk.old ≡ true
+        → AlwaysLeaves D.moment D.left_since disk.old disk.new (D.may_leave disk.old) }
+    ensures later { D.faults disk.old ≤ D.faults disk.new }
+    ensures cause { IsErrOf result RecoverFault.DiskFault → Rose (D.faults disk.old) (D.faults disk.new) }
+{
+    let mut offsets = Vec::new(alloc);
+    let mut at = MAGIC.len() as u64;
+    'gates: while let Some(next) = read_gate(disk, at, len)? {
+        offsets.push(at)?;
+        at = next;
+    }
+    Ok(Found { offsets, end: at })
+}
+
+// Syncs, and finds the frames.
+pub(crate) fn find_frames<D: Disk>(alloc: Global, disk: &mut D) -> Result<Found, RecoverFault>
+    ensures tells { D.tells disk.new ≡ D.tells disk.old }
+    ensures bound { IfOk result (λ found. found.end < 2 ^ 63) }
+    ensures found { D.tells disk.old ≡ true
+        → IfOk result (λ found. IsFound (D.seen disk.old) found.offsets.items found.end) }
+    ensures synced { D.tells disk.old ≡ true
+        → OnOk result (LeavesOnly (D.may_leave disk.new) (D.seen disk.old)) }
+    ensures fault { D.tells disk.old ≡ true → IfErr result (Explains (D.seen disk.old)) }
+    ensures seen { D.tells disk.old ≡ true → D.seen disk.new ≡ D.seen disk.old }
+    ensures crash { D.tells disk.old ≡ true → Leaves (D.may_leave disk.new) (D.may_leave disk.old) }
+    ensures any_moment { D.tells disk.old ≡ true
+        → AlwaysLeaves D.moment D.left_since disk.old disk.new (D.may_leave disk.old) }
+    ensures later { D.faults disk.old ≤ D.faults disk.new }
+    ensures cause { IsErrOf result RecoverFault.DiskFault → Rose (D.faults disk.old) (D.faults disk.new) }
+{
+    disk.sync()?;
+    let len = disk.len()?;
+    check_magic(disk)?;
+    walk(alloc, disk, len)
+}
