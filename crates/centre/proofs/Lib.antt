@@ -7,4 +7,5 @@ pub mod OneQuery
 pub mod Pieces
 pub mod Rows
 pub mod SelectWords
+pub mod Shelved
 pub mod Settling

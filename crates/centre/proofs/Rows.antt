@@ -1,25 +1,28 @@
 -- Each way in which a run ends is a row of the table.
-use Rattle.std.proofs.Common.{◌≡◌, ◌≢◌, ◌⊎◌, ℕ, ◌<◌, ◌≤◌, Bool, true, false, List, [], ◌∷◌, length, refl, sym, ap, arith, None, Some, Ok, Err, Result, cond, nat_lt, subst, inl, inr, append-nil}
+use Rattle.std.proofs.Common.{◌≡◌, ◌≢◌, ◌⊎◌, ℕ, ◌<◌, ◌≤◌, Bool, true, false, List, [], ◌∷◌, length, refl, sym, ap, ◌∙◌, arith, None, Some, Ok, Err, Result, cond, nat_lt, subst, inl, inr, append-nil}
 use Rattle.std.specs.declared.option.Option.{Option}
 use Rattle.std.proofs.lemmas.Bool.Decides.{nat_tests}
 use Rattle.mseed_header.specs.declared.row.Row.{Row}
-use Rattle.mseed_header.specs.Records.{AreRecords}
 use Rattle.dataselect.specs.declared.query.DataQuery.{DataQuery}
 use Rattle.dataselect.specs.declared.answers.DataRefusal.{DataRefusal}
 use Rattle.dataselect.specs.declared.answers.DataRefusal.TheVariants.{Empty, TooLarge as TooMuch, OutOfMemory as NoMemory}
+use Rattle.exact_time.specs.Causes.{Rose}
 use Rattle.dataselect.specs.Rows.{held_rows}
+use Rattle.dataselect.proofs.Fewer.{only_asked}
 use Rattle.dataselect.specs.DataBody.{answer_of, body_or_empty, images_at, RefusesAs}
 use Rattle.centre.specs.declared.TheConstants.{MAX_INPUT}
 use Rattle.centre.specs.declared.ending.Refusal.TheVariants.{UnknownCommand, Value, Order, Record, NoData, TooLarge, InputTooLong}
 use Rattle.centre.specs.declared.ending.Stop.{Stop}
 use Rattle.centre.specs.declared.ending.Stop.TheVariants.{Refused, ReadFault, WriteFault, OutOfMemory}
-use Rattle.centre.specs.Answers.{IsBodyOf, RefusesInput, RefusesRecords, places_for, all_seen, epoch, stop_for_data}
+use Rattle.centre.specs.Answers.{IsBodyOf, RefusesInput, places_for, all_seen, stop_for_data}
 use Rattle.centre.specs.Streams.{Grew}
 use Rattle.centre.specs.Commands.{SelectWords, Command, select, help, version}
 use Rattle.centre.specs.Table.{World, Stream, Tells, SelectRow, ShowRow, UnknownRow, Row as TableRow, ToldFor}
 use Rattle.centre.specs.declared.help.TheConstants.{HELP, VERSION}
 use Rattle.centre.specs.declared.ending.Refusal.{Refusal}
-use Rattle.centre.specs.Transfer.{Had, ReadStops}
+use Rattle.centre.specs.Transfer.{Had, WritesPart}
+use Rattle.centre.specs.Intake.{AreAsked, HasTaken, IntakeStops}
+use Rattle.centre.proofs.Inputs.{had_all}
 use Rattle.centre.specs.Words.{IsSelectQuery, RefusesWords, StopsWith}
 
 -- the words are refused
@@ -29,9 +32,9 @@ words_row w world OutOfMemory why = refl
 words_row w world ReadFault why = absurd why
 words_row w world WriteFault why = absurd why
 
--- reading stopped
+-- taking the input stopped
 pub read_row : (w : SelectWords) (query : DataQuery) (before after : World) (stop : Stop) → IsSelectQuery w query → after.sink ≡ before.sink
-    → ReadStops MAX_INPUT before.source.bytes before.source.faults after.source.faults stop → SelectRow w before after (Err stop)
+    → IntakeStops before.source.bytes before.source.faults after.source.faults stop → SelectRow w before after (Err stop)
 read_row w query before after ReadFault asked kept why = record { query = query; asked = asked; rose = why; kept = kept }
 read_row w query before after (Refused InputTooLong) asked kept why =
     inr (record { input = why.input; query = query; had = why.had; asked = asked; why = why.long; kept = kept })
@@ -40,7 +43,8 @@ read_row w query before after WriteFault asked kept why = absurd why
 read_row w query before after (Refused UnknownCommand) asked kept why = absurd why
 read_row w query before after (Refused (Value word)) asked kept why = absurd why
 read_row w query before after (Refused Order) asked kept why = absurd why
-read_row w query before after (Refused (Record at fault)) asked kept why = absurd why
+read_row w query before after (Refused (Record at fault)) asked kept why =
+    inr (record { input = why.input; query = query; had = why.had; asked = asked; why = why.bad; kept = kept })
 read_row w query before after (Refused NoData) asked kept why = absurd why
 read_row w query before after (Refused (TooLarge bytes limit)) asked kept why = absurd why
 
@@ -139,31 +143,58 @@ too_many max n rows (p ∷ ps) e =
     let more = above max (length (images_at rows (p ∷ ps))) h.0 in
     (λ none. cc, h.1, omega (arith, h.1, more))
 
-pub body_row : (query : DataQuery) (limit : ℕ) (input body : List ℕ) (rows : List Row) → length input ≤ MAX_INPUT → AreRecords input 0 epoch rows → answer_of all_seen query limit (held_rows rows) ≡ Ok body → IsBodyOf query limit input body
-body_row query limit input body rows within records e =
-    let h = body_is limit (held_rows rows) (places_for query rows) body e in
-    record { within = within; rows = rows; records = records; some = h.0; body_is = h.1; fits = h.2 }
+-- the rows that the query asks for give the answer of all
+asked_answer : (query : DataQuery) (limit : ℕ) (input : List ℕ) (held : List Row) (asked : AreAsked query input held) → answer_of all_seen query limit (held_rows asked.rows) ≡ answer_of all_seen query limit held
+asked_answer query limit input held asked = only_asked all_seen query limit asked.rows ∙ ap (answer_of all_seen query limit) (sym asked.held_are)
 
-pub data_row : (query : DataQuery) (limit : ℕ) (input : List ℕ) (rows : List Row) (refusal : DataRefusal) → length input ≤ MAX_INPUT → AreRecords input 0 epoch rows
-    → RefusesAs (answer_of all_seen query limit (held_rows rows)) refusal → StopsWith (RefusesInput query limit input) (stop_for_data limit refusal)
-data_row query limit input rows Empty within records e = record { within = within; rows = rows; records = records; none = none_are limit (held_rows rows) (places_for query rows) e }
-data_row query limit input rows (TooMuch n) within records e =
-    let h = too_many limit n (held_rows rows) (places_for query rows) e in
-    record { within = within; rows = rows; records = records; some = h.0; bytes_is = h.1; limit_is = refl; above = h.2 }
-data_row query limit input rows NoMemory within records e = tt
+pub body_row : (query : DataQuery) (limit : ℕ) (input body : List ℕ) (held : List Row) → length input ≤ MAX_INPUT → AreAsked query input held → answer_of all_seen query limit held ≡ Ok body → IsBodyOf query limit input body
+body_row query limit input body held within asked e =
+    let rows = asked.rows in
+    let h = body_is limit (held_rows rows) (places_for query rows) body (asked_answer query limit input held asked ∙ e) in
+    record { within = within; rows = rows; records = asked.records; some = h.0; body_is = h.1; fits = h.2 }
 
--- records that are refused
-pub records_row : (query : DataQuery) (limit : ℕ) (input : List ℕ) (stop : Stop) → length input ≤ MAX_INPUT → StopsWith (RefusesRecords input) stop → StopsWith (RefusesInput query limit input) stop
-records_row query limit input (Refused (Record at fault)) within why = record { within = within; first = why }
-records_row query limit input (Refused UnknownCommand) within why = absurd why
-records_row query limit input (Refused (Value word)) within why = absurd why
-records_row query limit input (Refused Order) within why = absurd why
-records_row query limit input (Refused NoData) within why = absurd why
-records_row query limit input (Refused (TooLarge bytes told)) within why = absurd why
-records_row query limit input (Refused InputTooLong) within why = absurd why
-records_row query limit input OutOfMemory within why = tt
-records_row query limit input ReadFault within why = absurd why
-records_row query limit input WriteFault within why = absurd why
+pub data_row : (query : DataQuery) (limit : ℕ) (input : List ℕ) (held : List Row) (refusal : DataRefusal) → length input ≤ MAX_INPUT → AreAsked query input held
+    → RefusesAs (answer_of all_seen query limit held) refusal → StopsWith (RefusesInput query limit input) (stop_for_data limit refusal)
+data_row query limit input held Empty within asked e =
+    let rows = asked.rows in
+    record { within = within; rows = rows; records = asked.records; none = none_are limit (held_rows rows) (places_for query rows) (asked_answer query limit input held asked ∙ e) }
+data_row query limit input held (TooMuch n) within asked e =
+    let rows = asked.rows in
+    let h = too_many limit n (held_rows rows) (places_for query rows) (asked_answer query limit input held asked ∙ e) in
+    record { within = within; rows = rows; records = asked.records; some = h.0; bytes_is = h.1; limit_is = refl; above = h.2 }
+data_row query limit input held NoMemory within asked e = tt
+
+-- the input was taken, and its answer is refused
+pub refused_row : (w : SelectWords) (query : DataQuery) (held : List Row) (refusal : DataRefusal) (before after : World) (stop : Stop) → stop ≡ stop_for_data w.limit refusal → IsSelectQuery w query
+    → HasTaken query before.source.bytes after.source.bytes held → after.sink ≡ before.sink → RefusesAs (answer_of all_seen query w.limit held) refusal → SelectRow w before after (Err stop)
+refused_row w query held refusal before after stop is asked taken kept why =
+    let refused = data_row query w.limit taken.input held refusal taken.within taken.asked why in
+    input_row w query taken.input before after stop asked (had_all before.source.bytes after.source.bytes taken.input taken.taken taken.end) kept
+    (subst (λ (s : Stop). StopsWith (RefusesInput query w.limit taken.input) s) (sym is) refused)
+
+-- the answer was written
+pub selected_row : (w : SelectWords) (query : DataQuery) (held : List Row) (body : List ℕ) (before after : World) → IsSelectQuery w query → HasTaken query before.source.bytes after.source.bytes held
+    → answer_of all_seen query w.limit held ≡ Ok body → Grew before.sink.bytes after.sink.bytes body → SelectRow w before after (Ok tt)
+selected_row w query held body before after asked taken answer output = record {
+  input = taken.input;
+  body = body;
+  had = had_all before.source.bytes after.source.bytes taken.input taken.taken taken.end;
+  answer = (query, asked, body_row query w.limit taken.input body held taken.within taken.asked answer);
+  end = taken.end;
+  output = output;
+}
+
+-- or a first part of it
+pub cut_row : (w : SelectWords) (query : DataQuery) (held : List Row) (body : List ℕ) (before after : World) → IsSelectQuery w query → HasTaken query before.source.bytes after.source.bytes held
+    → answer_of all_seen query w.limit held ≡ Ok body → Rose before.sink.faults after.sink.faults → WritesPart before.sink.bytes after.sink.bytes body → SelectRow w before after (Err WriteFault)
+cut_row w query held body before after asked taken answer rose part = record {
+  input = taken.input;
+  body = body;
+  had = had_all before.source.bytes after.source.bytes taken.input taken.taken taken.end;
+  answer = (query, asked, body_row query w.limit taken.input body held taken.within taken.asked answer);
+  rose = rose;
+  output = part;
+}
 
 -- nothing was told
 pub tells_nothing : (s : Stream) → Tells s s []

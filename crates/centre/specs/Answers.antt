@@ -66,11 +66,6 @@ pub record HasBadRecord (input : List ℕ) (at : ℕ) (fault : RecordFault) : Ty
   pub within : length input ≤ MAX_INPUT
   pub first : IsFirstBad input at fault
 
--- why an input is no records end to end
-abbrev pub RefusesRecords : List ℕ → Refusal → Type 0
-RefusesRecords input (Record at fault) = IsFirstBad input at fault
-RefusesRecords input _ = ⊥
-
 -- how a refusal of an answer stops a run
 abbrev pub stop_for_data : ℕ → DataRefusal → Stop
 stop_for_data limit Empty = Refused NoData

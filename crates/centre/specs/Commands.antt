@@ -3,7 +3,7 @@ use Rattle.std.specs.Prelude.{◌==◌, ◌&&◌, ◌||◌, ℕ, Bool, true, fal
 use Rattle.std.specs.List.{list_all}
 use Rattle.std.specs.Option.{option_map, is_some}
 use Rattle.std.specs.Str.{bytes_eq}
-use Rattle.query_words.specs.DataGet.{text_or}
+use Rattle.query_words.specs.Gets.{text_or}
 use Rattle.query_words.specs.Values.{whole_of}
 use Rattle.centre.specs.declared.TheConstants.{MAX_BYTES}
 

@@ -2,6 +2,7 @@ pub mod Answers
 pub mod Arguments
 pub mod Commands
 pub mod Memory
+pub mod Intake
 pub mod Settled
 pub mod Status
 pub mod Streams

@@ -1,11 +1,7 @@
 -- What reading and writing leave where they stop.
 use Rattle.std.specs.Prelude.{◌≡◌, ℕ, ◌<◌, List, ◌++◌, length, ⊤, Some, None}
 use Rattle.std.specs.declared.option.Option.{Option}
-use Rattle.exact_time.specs.Causes.{Rose}
 use Rattle.centre.specs.Streams.{Grew}
-use Rattle.centre.specs.declared.ending.Refusal.TheVariants.{InputTooLong}
-use Rattle.centre.specs.declared.ending.Stop.{Stop}
-use Rattle.centre.specs.declared.ending.Stop.TheVariants.{Refused, ReadFault, OutOfMemory}
 
 -- a first part of the bytes was written
 pub record WritesPart (old new : Option (List ℕ)) (bytes : List ℕ) : Type 0 where
@@ -24,10 +20,3 @@ pub record HadMore (left : Option (List ℕ)) (limit : ℕ) : Type 0 where
   pub input : List ℕ
   pub had : Had left input
   pub long : limit < length input
-
--- why reading an input of at most `limit` bytes stopped; want of memory is free
-abbrev pub ReadStops : ℕ → Option (List ℕ) → ℕ → ℕ → Stop → Type 0
-ReadStops limit left before now ReadFault = Rose before now
-ReadStops limit left before now (Refused InputTooLong) = HadMore left limit
-ReadStops limit left before now OutOfMemory = ⊤
-ReadStops limit left before now _ = ⊥

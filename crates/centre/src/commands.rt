@@ -2,7 +2,7 @@
 ghost use Rattle.std.specs.Prelude.{◌≡◌, ◌↔◌, map, string_bytes, codes, IsTrue};
 ghost use Rattle.std.specs.List.{list_all};
 ghost use Rattle.std.specs.Option.{option_map};
-ghost use Rattle.query_words.specs.DataGet.{text_or};
+ghost use Rattle.query_words.specs.Gets.{text_or};
 ghost use Rattle.centre.specs.Commands.{is_position, is_option, are_options, value_of, limit_of, select_words_of, lone_command_of, command_of};
 ghost use Rattle.centre.specs.Arguments.{words_at, command_at};
 

@@ -14,10 +14,10 @@ mod adapters;
 mod commands;
 mod ending;
 mod help;
+mod intake;
 mod law;
 mod memory;
 mod running;
-mod select;
 mod streams;
 mod telling;
 #[cfg(test)]

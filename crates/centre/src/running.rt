@@ -1,22 +1,34 @@
 //! The top call: all that the program does.
 ghost use Rattle.std.specs.Prelude.{◌≡◌, ◌≢◌, ◌↔◌, map, string_bytes, None, Err};
 ghost use Rattle.exact_time.specs.Causes.{Rose};
-ghost use Rattle.centre.specs.Answers.{IsAnswer};
+ghost use Rattle.centre.specs.Answers.{IsAnswer, stop_for_data};
 ghost use Rattle.centre.specs.Commands.{command_of};
 ghost use Rattle.centre.specs.Arguments.{words_at};
 ghost use Rattle.centre.specs.Settled.{Told, ComesWhere, IsComplete, IsCutShort, IsSettled, IsWritten, IsRefused, IsTooLarge};
 ghost use Rattle.centre.specs.Table.{IsRun, Row, SelectRow, ShowRow, stream, world};
 
-use crate::MAX_INPUT;
 use crate::commands::{CommandWords, SelectArguments, command_in};
 use crate::ending::{Refusal, Stop};
 use crate::help::{HELP, VERSION};
-use crate::select::body_of;
+use crate::intake::take_records;
 use crate::streams::{Sink, Source};
 use crate::telling::tell_stop;
-use crate::transfer::{put_all, read_input};
+use crate::transfer::put_all;
 use crate::words::select_query;
+use dataselect::{All, DataRefusal, answer};
 use std::alloc::Global;
+use time_index::IndexedShelf;
+
+// How a refusal of the answer stops the run.
+fn stop_for_data(limit: u64, refusal: DataRefusal) -> Stop
+    ensures { result ≡ stop_for_data limit refusal }
+{
+    match refusal {
+        DataRefusal::Empty => Stop::Refused(Refusal::NoData),
+        DataRefusal::TooLarge(bytes) => Stop::Refused(Refusal::TooLarge { bytes, limit }),
+        DataRefusal::OutOfMemory => Stop::OutOfMemory,
+    }
+}
 
 // The command `select`: query, input, records, answer, output.
 fn select<S: Source, K: Sink>(
@@ -34,13 +46,14 @@ fn select<S: Source, K: Sink>(
         Ok(query) => query,
         Err(stop) => return Err(stop),
     };
-    let input = match read_input(alloc, source, MAX_INPUT) {
-        Ok(input) => input,
-        Err(unread) => return Err(unread),
-    };
-    let body = match body_of(alloc, &query, arguments.limit, input.as_slice()) {
+    let mut shelf = IndexedShelf::new(alloc);
+    match take_records(alloc, &query, source, &mut shelf) {
+        Ok(()) => (),
+        Err(untaken) => return Err(untaken),
+    }
+    let body = match answer(alloc, &shelf, &All, &query, arguments.limit) {
         Ok(body) => body,
-        Err(refused) => return Err(refused),
+        Err(refusal) => return Err(stop_for_data(arguments.limit, refusal)),
     };
     match put_all(sink, body.as_slice()) {
         Ok(()) => Ok(()),

@@ -12,7 +12,7 @@ use channel_globs::{GlobFault, Part, PatternList};
 use dataselect::{DataQuery, Nodata, Selection};
 use exact_time::{Many, Moment};
 use mseed_header::Quality;
-use query_words::{read_longest, read_minimum, read_quality};
+use query_words::{read_flag, read_minimum, read_quality};
 use std::alloc::Global;
 
 // How a fault of a code word stops the run.
@@ -74,7 +74,7 @@ fn longest(text: &str) -> Result<bool, Refusal>
     ensures ok { IfOk result (λ longest. flag_of text.now ≡ Some longest) }
     ensures err { IfErr result (λ refusal. (refusal ≡ Refusal.Value Word.Longest) × (¬ (IsFlag text.now))) }
 {
-    match read_longest(text.as_bytes()) {
+    match read_flag(text.as_bytes()) {
         Ok(longest) => Ok(longest),
         Err(_) => Err(Refusal::Value(Word::Longest)),
     }

@@ -3,3 +3,4 @@ pub mod Examples
 pub mod MatchingSteps
 pub mod OneList
 pub mod PatternTexts
+pub mod SameBytes

@@ -78,7 +78,8 @@ impl PartialEq for Code {
     ghost laws = { partial_equiv_from_equiv nat_list_eq_equiv };
 
     fn eq(&self, other: &Self) -> bool {
-        self.as_slice() == other.as_slice()
+        // eight bytes are compared as one number
+        self.len == other.len && self.bytes == other.bytes
     }
 }
 
@@ -106,6 +107,9 @@ impl Ord for Code {
     ghost matches_eq = { texts_ties };
 
     fn cmp(&self, other: &Self) -> Ordering {
+        if self == other {
+            return Ordering::Equal;
+        }
         self.as_slice().cmp(&other.as_slice())
     }
 }

@@ -4,6 +4,7 @@ pub mod Bodies
 pub mod Breaks
 pub mod Cuts
 pub mod Examples
+pub mod Fewer
 pub mod Fractions
 pub mod Held
 pub mod Inside

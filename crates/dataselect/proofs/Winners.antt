@@ -25,7 +25,7 @@ all_map : {X : Type 0} (P Q : X → Type 0) → ((x : X) → P x → Q x) → (x
 all_map P Q step [] all = tt
 all_map P Q step (x ∷ xs) all = (step x all.0, all_map P Q step xs all.1)
 
-any_filtered : {X : Type 0} (p q : X → Bool) (xs : List X) → list_any p (filter q xs) ≡ list_any (λ x. q x && p x) xs
+pub any_filtered : {X : Type 0} (p q : X → Bool) (xs : List X) → list_any p (filter q xs) ≡ list_any (λ x. q x && p x) xs
 any_filtered p q [] = refl
 any_filtered p q (x ∷ xs) =
     let rest = any_filtered p q xs in

@@ -1,5 +1,5 @@
 -- The chosen rows: those that are seen and asked for, in order, each once.
-use Rattle.std.specs.Prelude.{ℕ, ◌+◌, Bool, ◌&&◌, if◌then◌else◌, List, [], ◌∷◌, map}
+use Rattle.std.specs.Prelude.{ℕ, ◌+◌, Bool, ◌&&◌, if◌then◌else◌, List, [], ◌∷◌, map, filter}
 use Rattle.list_laws.specs.InOrder.{in_order}
 use Rattle.mseed_header.specs.declared.row.Row.{Row}
 use Rattle.dataselect.specs.declared.order.Rank.{Rank}
@@ -10,6 +10,10 @@ use Rattle.dataselect.specs.Query.{is_asked}
 -- the row is seen and asked for
 abbrev pub passes : (Row → Bool) → DataQuery → Row → Bool
 passes seen query row = seen row && is_asked query row.header
+
+-- of the rows those that a query asks for
+abbrev pub asked_rows : DataQuery → List Row → List Row
+asked_rows query rows = filter (λ row. is_asked query row.header) rows
 
 -- the ranks of the rows that pass, as the rows stand from an index on
 abbrev pub ranks_from : (Row → Bool) → DataQuery → ℕ → List Row → List Rank

@@ -1,2 +1,11 @@
+pub mod EntryWord
+pub mod Examples
 pub mod FieldSteps
 pub mod LadderSteps
+pub mod OneField
+pub mod OneLine
+pub mod OneRevision
+pub mod RevisionSteps
+pub mod SpelledValues
+pub mod TextsOfMoments
+pub mod TextsOfValues

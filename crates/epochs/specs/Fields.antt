@@ -1,8 +1,8 @@
 -- What the fields of revision lines spell.
 use Rattle.std.specs.Prelude.{◌≡◌, ℕ, ◌≤◌, ◌==◌, ◌||◌, ◌&&◌, not, nat_le, ℤ, pos, ◌≤ℤ◌, unsigned_abs, Bool, true, IsTrue, List, [], ◌∷◌, length, Option, Some, None, if◌then◌else◌, codes, ⊤}
 use Rattle.std.specs.List.{list_all, list_any, slice_split}
-use Rattle.std.specs.Str.{bytes_eq}
-use Rattle.std.specs.Char.{is_ascii_alphanumeric, is_ascii_digit}
+use Rattle.std.specs.Str.{bytes_eq, chars}
+use Rattle.std.specs.Char.{is_ascii_alphanumeric, is_ascii_digit, is_control}
 use Rattle.exact_time.specs.MomentText.{IsMoment}
 use Rattle.exact_time.specs.Decimals.{IsDecimal}
 use Rattle.channel_globs.specs.PatternText.{is_blank, space, comma, IsPatternList}
@@ -10,7 +10,7 @@ use Rattle.channel_globs.specs.declared.nslc.Part.{Part}
 use Rattle.channel_globs.specs.declared.nslc.Part.TheVariants.{Network, Station, Location, Channel}
 use Rattle.epochs.specs.declared.quantity.Quantity.{Quantity}
 use Rattle.epochs.specs.declared.quantity.Quantity.TheVariants.{Latitude, Longitude, Azimuth, Dip, Rate, Measure}
-use Rattle.epochs.specs.declared.user.Roles.{Roles}
+use Rattle.epochs.specs.declared.parts.Roles.{Roles}
 use Rattle.epochs.specs.Kinds.{Text, FieldKind, CodeOf, Words, Time, End, Required, Optional, PatternsOf, EventId, UserName, Ha1, RoleNames}
 
 -- the value of a field, without where it lies in memory
@@ -71,9 +71,23 @@ abbrev pub IsEnd : Text → Option ℤ → Type 0
 IsEnd text None = text ≡ []
 IsEnd text (Some micros) = IsMoment text micros
 
--- how many bytes a text may have
+-- what stands between the fields of a line
+abbrev pub bar : ℕ
+bar = 124
+
+abbrev pub has_control : Text → Bool
+has_control text = list_any is_control (chars text)
+
+abbrev pub has_bar : Text → Bool
+has_bar text = list_any (λ c. c == bar) text
+
+-- how many bytes words may have
 abbrev pub most_words : ℕ
 most_words = 200
+
+-- short, without control characters (Unicode, general category Cc), and without bars
+abbrev pub is_words : Text → Bool
+is_words text = nat_le (length text) most_words && not (has_control text) && not (has_bar text)
 
 -- a letter, a digit, or one of `_ - .`
 abbrev pub is_name_byte : ℕ → Bool
@@ -131,7 +145,7 @@ roles_of text =
 -- the text of a field spells this value
 abbrev pub IsField : FieldKind → Text → Value → Type 0
 IsField (CodeOf part) text (code c) = code_of part text ≡ Some c
-IsField Words text (words t) = (t ≡ text) × (length text ≤ most_words)
+IsField Words text (words t) = (t ≡ text) × IsTrue (is_words text)
 IsField Time text (time micros) = IsMoment text micros
 IsField End text (end micros) = IsEnd text micros
 IsField (Required quantity) text (number n) = IsNumber quantity text n

@@ -4,6 +4,8 @@ use Rattle.channel_globs.specs.declared.nslc.Part.{Part}
 use Rattle.channel_globs.specs.declared.nslc.Part.TheVariants.{Network, Station, Location, Channel}
 use Rattle.epochs.specs.declared.kinds.Kind.{Kind}
 use Rattle.epochs.specs.declared.kinds.Kind.TheVariants.{Net, Sta, Cha, Evt, Rst, Grt, Usr}
+use Rattle.epochs.specs.declared.kinds.Head.{Head}
+use Rattle.epochs.specs.declared.kinds.Head.TheVariants.{Says, Deletes}
 use Rattle.epochs.specs.declared.quantity.Quantity.{Quantity}
 use Rattle.epochs.specs.declared.quantity.Quantity.TheVariants.{Latitude, Longitude, Azimuth, Dip, Rate, Measure}
 
@@ -106,10 +108,6 @@ name_of Grt = codes "GRT"
 name_of Usr = codes "USR"
 
 -- how a line begins: with its kind, or with DEL and the kind whose key it deletes
-pub data Head : Type 0 where
-  Says : Kind → Head
-  Deletes : Kind → Head
-
 abbrev pub head_texts : Head → List Text
 head_texts (Says kind) = name_of kind ∷ []
 head_texts (Deletes kind) = codes "DEL" ∷ name_of kind ∷ []

@@ -1,6 +1,9 @@
+pub mod Entries
 pub mod Fields
+pub mod Keys
 pub mod Kinds
 pub mod Lines
 pub mod Reading
 pub mod Revisions
+pub mod Values
 pub mod Views

@@ -1,10 +1,10 @@
 -- What a revision line spells, and its fault.
 use Rattle.std.specs.Prelude.{◌≡◌, ℕ, zero, suc, ◌+◌, ◌==◌, ◌≤◌, ◌||◌, Bool, false, ℤ, ◌<ℤ◌, List, [], ◌∷◌, ◌++◌, length, Option, Some, None, ⊤}
-use Rattle.std.specs.List.{list_all, list_any, slice_split}
-use Rattle.std.specs.Str.{IsUtf8, chars}
-use Rattle.std.specs.Char.{is_control}
-use Rattle.epochs.specs.Kinds.{Text, FieldKind, Head, head_texts, fields_behind}
-use Rattle.epochs.specs.Fields.{Value, time, end, IsField}
+use Rattle.std.specs.List.{list_all, slice_split}
+use Rattle.std.specs.Str.{IsUtf8}
+use Rattle.epochs.specs.declared.kinds.Head.{Head}
+use Rattle.epochs.specs.Kinds.{Text, FieldKind, head_texts, fields_behind}
+use Rattle.epochs.specs.Fields.{Value, time, end, IsField, bar, has_control}
 use Rattle.epochs.specs.declared.fault.LineFault.{LineFault}
 use Rattle.epochs.specs.declared.fault.LineFault.TheVariants as fault
 
@@ -15,9 +15,6 @@ pub record Entry : Type 0 where
 
 abbrev pub entry : Head → List Value → Entry
 entry head values = record { head = head; values = values }
-
-abbrev pub bar : ℕ
-bar = 124
 
 abbrev pub number_sign : ℕ
 number_sign = 35
@@ -38,7 +35,7 @@ is_skipped text = list_all (λ c. c == 32 || c == 9) text || begins_with_number_
 pub record IsPlain (text : Text) : Type 0 where
   pub short : length text ≤ most_bytes_of_line
   pub utf8 : IsUtf8 text
-  pub printable : list_any is_control (chars text) ≡ false
+  pub printable : has_control text ≡ false
 
 -- the fields of a line, between bars
 abbrev pub texts_of : Text → List Text

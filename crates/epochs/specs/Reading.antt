@@ -1,11 +1,16 @@
 -- What the readers of fields answer.
-use Rattle.std.specs.Prelude.{◌≡◌, ◌≤◌, ◌+◌, ◌-◌, ℕ, List, length, ⊤}
+use Rattle.std.specs.Prelude.{◌≡◌, ◌≤◌, ◌+◌, ◌-◌, ◌++◌, ℕ, List, length, ⊤}
+use Rattle.std.specs.Str.Lines.{lines}
 use Rattle.channel_globs.specs.declared.patterns.GlobFault.{GlobFault}
 use Rattle.channel_globs.specs.declared.patterns.GlobFault.TheVariants as glob
-use Rattle.epochs.specs.Kinds.{Text, FieldKind, Head, head_texts, fields_behind}
+use Rattle.epochs.specs.declared.kinds.Head.{Head}
+use Rattle.epochs.specs.Kinds.{Text, FieldKind, head_texts, fields_behind}
 use Rattle.epochs.specs.Fields.{Value}
-use Rattle.epochs.specs.Lines.{Entry, SpellsNone, IsFirstBad, AreValues, IsInOrder}
+use Rattle.epochs.specs.Lines.{Entry, SpellsNone, IsFirstBad, AreValues, IsInOrder, IsLineFault}
 use Rattle.epochs.specs.declared.fault.LineFault.TheVariants.{Fields, Value as BadValue, Order}
+use Rattle.epochs.specs.Revisions.{said_in, AreLines}
+use Rattle.epochs.specs.declared.fault.RevisionFault.{RevisionFault}
+use Rattle.epochs.specs.declared.fault.RevisionFault.TheVariants as revision
 use Rattle.epochs.specs.declared.values.ReadFault.{ReadFault}
 use Rattle.epochs.specs.declared.values.ReadFault.TheVariants.{Bad, OutOfMemory}
 
@@ -41,7 +46,8 @@ pub record IsBackward (head : Head) (rest : List Text) : Type 0 where
 -- why the fields behind a head weren't read; want of memory is free
 abbrev pub RefusesBehind : Head → List Text → ReadFault → Type 0
 RefusesBehind head rest (Bad Fields) = ¬ (length rest ≡ length (fields_behind head))
-RefusesBehind head rest (Bad (BadValue n)) = RefusesFields (fields_behind head) (length (head_texts head) + 1) rest (bad_value n)
+RefusesBehind head rest (Bad (BadValue n)) =
+    (length rest ≡ length (fields_behind head)) × RefusesFields (fields_behind head) (length (head_texts head) + 1) rest (bad_value n)
 RefusesBehind head rest (Bad Order) = IsBackward head rest
 RefusesBehind head rest (Bad _) = ⊥
 RefusesBehind head rest OutOfMemory = ⊤
@@ -52,3 +58,29 @@ list_fault number glob.TooMany = bad_value number
 list_fault number glob.Character = bad_value number
 list_fault number glob.Length = bad_value number
 list_fault number glob.OutOfMemory = OutOfMemory
+
+-- texts begin with a head, and have these behind it
+abbrev pub IsHead : List Text → Head → List Text → Type 0
+IsHead texts head rest = texts ≡ head_texts head ++ rest
+
+-- texts begin with no head
+abbrev pub HasNoHead : List Text → Type 0
+HasNoHead texts = (head : Head) (rest : List Text) → ¬ (IsHead texts head rest)
+
+-- why a line wasn't read; want of memory is free
+abbrev pub RefusesLine : Text → ReadFault → Type 0
+RefusesLine text (Bad fault) = IsLineFault text fault
+RefusesLine text OutOfMemory = ⊤
+
+-- how the fault of a line is one of the body
+abbrev pub raised : ℕ → ReadFault → RevisionFault
+raised number (Bad fault) = revision.Bad number fault
+raised number OutOfMemory = revision.OutOfMemory
+
+-- the lines before what is left of a body, their number, and the entries that they spell
+pub record HasRead (body left : Text) (number : ℕ) (entries : List Entry) : Type 0 where
+  pub before : List Text
+  pub split : lines body ≡ before ++ lines left
+  pub number_is : number ≡ length before
+  pub room : number + length left ≤ length body
+  pub clean : AreLines (said_in before) entries

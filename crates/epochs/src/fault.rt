@@ -1,3 +1,4 @@
+use exact_time::OutOfMemory;
 use std::error::Error;
 use std::fmt;
 
@@ -51,3 +52,14 @@ impl fmt::Display for RevisionFault {
 }
 
 impl Error for RevisionFault {}
+
+impl From<OutOfMemory> for RevisionFault {
+    ghost use Rattle.std.specs.Prelude.{◌≡◌};
+    ghost use Rattle.epochs.specs.declared.fault.RevisionFault.TheVariants.{OutOfMemory as NoMemory};
+
+    ghost from_gives = { λ _ e. e ≡ NoMemory };
+
+    fn from(_error: OutOfMemory) -> RevisionFault {
+        RevisionFault::OutOfMemory
+    }
+}

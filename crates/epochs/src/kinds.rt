@@ -18,3 +18,12 @@ pub enum Kind {
     /// A user.
     Usr,
 }
+
+/// How a line begins.
+#[derive(Clone, Copy, Debug, PartialEq, Eq)]
+pub enum Head {
+    /// With its kind: it states something.
+    Says(Kind),
+    /// With `DEL` and the kind of the line whose key it has: it ends that line.
+    Deletes(Kind),
+}

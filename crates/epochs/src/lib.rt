@@ -1,24 +1,45 @@
 //! Revision lines: what a data centre says of its networks, stations, channels, events and users.
 //!
-//! Which kinds of lines there are, with their fields and keys, stands as a table in
-//! `specs/Kinds.antt`, and what each field spells in `specs/Fields.antt`. A line is one entry or has
-//! one fault (`IsLine` and `IsLineFault` of `specs/Lines.antt`), and a body spells its lines or has one
-//! first fault (`IsRevision` and `IsRevisionFault` of `specs/Revisions.antt`). Those definitions speak
-//! of a [`Line`] and a [`Key`] as `specs/Views.antt` sees them, without memory.
+//! What the crates above use: [`read_revision`] reads a body of revision lines. It answers Ok exactly with
+//! the lines that the body spells (`IsRevision` of `specs/Revisions.antt`), and else the first fault
+//! (`IsRevisionFault`): by those definitions each body has exactly one answer (`src/law.rt`). Only
+//! [`RevisionFault::OutOfMemory`] needs no cause.
 //!
-//! There is no reader of whole bodies yet: what stands so far are the types, the readers of single
-//! fields (`src/values.rt`, `src/roles.rt`), and that of the fields of a network (`src/reading.rt`).
+//! Which kinds of lines there are, with their fields and keys, stands as a table in
+//! `specs/Kinds.antt`, for lines and for deletions, and what each field spells in `specs/Fields.antt`. A
+//! line is one entry or has one fault (`IsLine` and `IsLineFault` of `specs/Lines.antt`). These
+//! definitions speak of a [`Line`] and a [`Key`] as `specs/Views.antt` and `specs/Keys.antt` see them,
+//! without memory.
+//!
+//! The type of a line keeps that its fields are values that a line can spell, and that its end is after
+//! its start (`IsEntry` of `specs/Entries.antt`).
+//!
+//! A line is read in groups of fields (`src/groups.rt`), each field by a reader of its own
+//! (`src/values.rt`, `src/roles.rt`); `src/statements.rt` and `src/deletions.rt` have a function for each kind.
 #![tactic(auto)]
 
+mod deletions;
 mod fault;
+mod groups;
+mod key;
 mod kinds;
+mod law;
 mod line;
+mod parts;
 mod quantity;
 mod reading;
+mod revision;
 mod roles;
-mod user;
+mod statements;
+#[cfg(test)]
+mod tests;
 mod values;
 
 pub use fault::{LineFault, RevisionFault};
-pub use line::{Glob, Key, Line};
-pub use user::{Roles, User};
+pub use key::Key;
+pub use law::{a_body_is_one_revision_or_one_fault, a_field_can_have_what_some_text_spells};
+pub use line::{
+    ChannelEpoch, Deletion, Event, Grant, Line, NetworkEpoch, Restriction, StationEpoch, User,
+};
+pub use parts::{Glob, Roles};
+pub use revision::read_revision;

@@ -1,23 +1,17 @@
 //! Revision lines, one by one.
-ghost use Rattle.std.specs.Prelude.{◌≡◌, ◌≤◌, ◌==◌, ◌||◌, ◌<◌, ◌↔◌, IsTrue, Some, option_map, ⊤, [], ◌∷◌, IfOk, IfErr, MatchOption, length, map};
-ghost use Rattle.std.specs.List.{list_all, list_any};
-ghost use Rattle.std.specs.Str.{chars};
-ghost use Rattle.std.specs.Char.{is_control};
-ghost use Rattle.std.specs.List.{slice_split};
-ghost use Rattle.epochs.specs.Kinds.{name_of, Says, CodeOf, Words, Time, End};
-ghost use Rattle.channel_globs.specs.declared.nslc.Part.TheVariants.{Network};
-ghost use Rattle.epochs.specs.declared.kinds.Kind.TheVariants.{Net};
-ghost use Rattle.epochs.specs.Fields.{code, words, time, end};
-ghost use Rattle.epochs.specs.Views.{seen, time_value, end_value, epoch_values};
-ghost use Rattle.epochs.specs.Reading.{RefusesFields, IsSpelled, RefusesBehind};
-ghost use Rattle.epochs.specs.Lines.{is_skipped, begins_with_number_sign, IsPlain, texts_of, AreValues, IsAfter};
+ghost use Rattle.std.specs.Prelude.{◌≡◌, ◌≤◌, ◌==◌, ◌||◌, ⊤, IfOk, IfErr, MatchOption, length, map};
+ghost use Rattle.std.specs.List.{list_all};
+ghost use Rattle.epochs.specs.Kinds.{name_of};
+ghost use Rattle.epochs.specs.Lines.{is_skipped, begins_with_number_sign, IsPlain, IsLine, texts_of};
+ghost use Rattle.epochs.specs.Views.{seen};
+ghost use Rattle.epochs.specs.Reading.{IsHead, HasNoHead, IsSpelled, RefusesBehind, RefusesLine};
 
+use crate::deletions::read_deletion;
 use crate::fault::LineFault;
-use crate::kinds::Kind;
+use crate::kinds::{Head, Kind};
 use crate::line::Line;
-use crate::values::{ReadFault, read_code, read_end, read_time, read_words};
-use channel_globs::{Code, Part};
-use exact_time::{Moment, Text};
+use crate::statements::read_statement;
+use crate::values::{ReadFault, has_control};
 use std::alloc::{AllocError, Global};
 
 // How many bytes a line may have, without its end.
@@ -45,14 +39,8 @@ pub fn is_skipped(text: &[u8]) -> bool
     is_blank(text) || begins_with_number_sign(text)
 }
 
-fn has_control(text: &str) -> bool
-    ensures { result ≡ list_any is_control (chars text.now) }
-{
-    text.chars().any(|c| c.is_control())
-}
-
-/// The text of a line that is short, in UTF-8 and without control characters.
-pub fn plain_text(line: &[u8]) -> Option<&str>
+// The text of a line that is short, in UTF-8 and without control characters.
+fn plain_text(line: &[u8]) -> Option<&str>
     ensures plain { MatchOption result (¬ (IsPlain line.now)) (λ text. IsPlain line.now) }
     ensures same { MatchOption result ⊤ (λ text. text.now ≡ line.now) }
 {
@@ -68,8 +56,15 @@ pub fn plain_text(line: &[u8]) -> Option<&str>
     Some(text)
 }
 
-/// The kind of a line, by its first field.
-pub fn kind_named(text: &str) -> Option<Kind>
+// The fields of a line, between bars.
+fn fields_in(alloc: Global, text: &str) -> Result<Vec<&str>, AllocError>
+    ensures { IfOk result (λ v. map (λ x. x.now) v.items ≡ texts_of text.now) }
+{
+    text.split('|').collect(alloc)
+}
+
+// The kind that a field names.
+fn kind_named(text: &str) -> Option<Kind>
     ensures { MatchOption result ((kind : Kind) → ¬ (text.now ≡ name_of kind)) (λ kind. text.now ≡ name_of kind) }
 {
     match text {
@@ -84,66 +79,39 @@ pub fn kind_named(text: &str) -> Option<Kind>
     }
 }
 
-// The fields of a line, between bars.
-fn fields_in(alloc: Global, text: &str) -> Result<Vec<&str>, AllocError>
-    ensures { IfOk result (λ v. map (λ x. x.now) v.items ≡ texts_of text.now) }
+// How fields begin, and the fields behind that.
+fn head_of<'a, 'b>(fields: &'a [&'b str]) -> Option<(Head, &'a [&'b str])>
+    ensures { MatchOption result (HasNoHead (map (λ x. x.now) fields.now)) (λ h. IsHead (map (λ x. x.now) fields.now) h.0 (map (λ x. x.now) h.1.now)) }
 {
-    text.split('|').collect(alloc)
-}
-
-// The start and the end of an epoch, in the fields of this number and the next.
-fn read_epoch(number: u64, start: &str, end: &str) -> Result<(Moment, Option<Moment>), ReadFault>
-    requires { number < 100 }
-    ensures value { IfOk result (λ e. AreValues (Time ∷ End ∷ []) (start.entry.now ∷ end.entry.now ∷ []) (epoch_values e.0 e.1)) }
-    ensures refused { IfErr result (RefusesFields (Time ∷ End ∷ []) number (start.entry.now ∷ end.entry.now ∷ [])) }
-{
-    let start = read_time(number, start)?;
-    let end = read_end(number + 1, end)?;
-    Ok((start, end))
-}
-
-// Whether an end is after its start; an epoch without an end is open.
-fn is_after(start: Moment, end: Option<Moment>) -> bool
-    ensures { IsTrue result ↔ IsAfter (Some start.micros) (option_map (λ moment. moment.micros) end) }
-{
-    match end {
-        None => true,
-        Some(end) => start < end,
+    match fields {
+        ["DEL", name, rest @ ..] => Some((Head::Deletes(kind_named(name)?), rest)),
+        [name, rest @ ..] => Some((Head::Says(kind_named(name)?), rest)),
+        [] => None,
     }
 }
 
-// A network, of the fields behind its kind.
-fn read_net_fields(
-    alloc: Global,
-    network: &str,
-    description: &str,
-    start: &str,
-    end: &str,
-) -> Result<Line, ReadFault>
-    ensures value { IfOk result (λ line. IsSpelled (Says Net) (network.entry.now ∷ description.entry.now ∷ start.entry.now ∷ end.entry.now ∷ []) (seen line)) }
-    ensures refused { IfErr result (RefusesBehind (Says Net) (network.entry.now ∷ description.entry.now ∷ start.entry.now ∷ end.entry.now ∷ [])) }
+// The line of the fields behind a head.
+fn read_behind(alloc: Global, head: Head, fields: &[&str]) -> Result<Line, ReadFault>
+    ensures value { IfOk result (λ line. IsSpelled head (map (λ x. x.now) fields.now) (seen line)) }
+    ensures refused { IfErr result (RefusesBehind head (map (λ x. x.now) fields.now)) }
 {
-    let network = read_code(2, Part::Network, network)?;
-    let description = read_words(alloc, 3, description)?;
-    let (start, end) = read_epoch(4, start, end)?;
-    if !is_after(start, end) {
-        return Err(ReadFault::Bad(LineFault::Order));
+    match head {
+        Head::Says(kind) => read_statement(alloc, kind, fields),
+        Head::Deletes(kind) => read_deletion(alloc, kind, fields),
     }
-    Ok(Line::Net {
-        network,
-        description,
-        start,
-        end,
-    })
 }
 
-// A network, if its fields are as many.
-fn read_net(alloc: Global, fields: &[&str]) -> Result<Line, ReadFault>
-    ensures value { IfOk result (λ line. IsSpelled (Says Net) (map (λ x. x.now) fields.now) (seen line)) }
-    ensures refused { IfErr result (RefusesBehind (Says Net) (map (λ x. x.now) fields.now)) }
+/// The line that a text spells.
+pub fn read_line(alloc: Global, text: &[u8]) -> Result<Line, ReadFault>
+    ensures line { IfOk result (λ line. IsLine text.now (seen line)) }
+    ensures refused { IfErr result (RefusesLine text.now) }
 {
-    let [network, description, start, end] = fields else {
-        return Err(ReadFault::Bad(LineFault::Fields));
+    let Some(text) = plain_text(text) else {
+        return Err(ReadFault::Bad(LineFault::Form));
     };
-    read_net_fields(alloc, network, description, start, end)
+    let fields = fields_in(alloc, text)?;
+    let Some((head, rest)) = head_of(&fields) else {
+        return Err(ReadFault::Bad(LineFault::Kind));
+    };
+    read_behind(alloc, head, rest)
 }

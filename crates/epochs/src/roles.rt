@@ -6,7 +6,7 @@ ghost use Rattle.epochs.specs.Kinds.{RoleNames};
 ghost use Rattle.epochs.specs.Fields.{IsField, role_words, is_role, has_word, are_distinct, roles_named, roles};
 ghost use Rattle.epochs.specs.Reading.{RefusesField};
 
-use crate::user::Roles;
+use crate::parts::Roles;
 use crate::values::{ReadFault, bad_value};
 use std::alloc::{AllocError, Global};
 

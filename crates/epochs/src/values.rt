@@ -5,13 +5,13 @@ ghost use Rattle.std.specs.Char.{is_ascii_alphanumeric};
 ghost use Rattle.std.specs.Str.{IsUtf8};
 ghost use Rattle.exact_time.specs.Decimals.{IsDecimal};
 ghost use Rattle.epochs.specs.Kinds.{CodeOf, Words, Time, End, Required, Optional, PatternsOf, EventId, UserName, Ha1};
-ghost use Rattle.epochs.specs.Fields.{IsField, IsQuantity, is_code_text, least_bytes, most_bytes, is_name_byte, is_id_byte, is_event_id, is_user_name, is_lower_hex, is_ha1};
+ghost use Rattle.epochs.specs.Fields.{IsField, IsQuantity, is_code_text, least_bytes, most_bytes, is_name_byte, is_id_byte, is_event_id, is_user_name, is_lower_hex, is_ha1, has_control, has_bar, is_words};
 ghost use Rattle.epochs.specs.Fields.{code, words, time, end, number, optional, patterns};
 ghost use Rattle.epochs.specs.Reading.{RefusesField, bad_value, list_fault};
-ghost use Rattle.epochs.specs.Views.{glob_value, time_value, end_value, number_value, optional_value};
+ghost use Rattle.epochs.specs.Values.{glob_value, time_value, end_value, number_value, optional_value};
 
 use crate::fault::LineFault;
-use crate::line::Glob;
+use crate::parts::Glob;
 use crate::quantity::Quantity;
 use channel_globs::{Code, GlobFault, Part, PatternList, is_blank_location};
 use exact_time::{Decimal, Moment, OutOfMemory, Text};
@@ -190,12 +190,31 @@ pub fn read_optional(
     }
 }
 
-/// A text of at most 200 bytes.
+/// Whether a text has a control character (Unicode, general category Cc).
+pub fn has_control(text: &str) -> bool
+    ensures { result ≡ has_control text.now }
+{
+    text.chars().any(|c| c.is_control())
+}
+
+fn has_bar(text: &[u8]) -> bool
+    ensures { result ≡ has_bar text.now }
+{
+    text.iter().any(|byte| *byte == b'|')
+}
+
+fn is_words(text: &str) -> bool
+    ensures { result ≡ is_words text.now }
+{
+    text.len() <= MOST_WORDS && !has_control(text) && !has_bar(text.as_bytes())
+}
+
+/// A text of at most 200 bytes, without control characters and bars.
 pub fn read_words(alloc: Global, number: u64, text: &str) -> Result<Text, ReadFault>
     ensures value { IfOk result (λ t. IsField Words text.now (words t)) }
     ensures refused { IfErr result (RefusesField Words number text.now) }
 {
-    if text.len() > MOST_WORDS {
+    if !is_words(text) {
         return Err(bad_value(number));
     }
     text_of(alloc, text)

@@ -20,7 +20,7 @@ use Rattle.mseed_header.specs.declared.header.RecordFault.TheVariants.{Short}
 use Rattle.mseed_header.specs.declared.row.Row.{Row}
 
 -- a row is its header, its bytes and where they came from
-same_row : (x y : Row) → x.header ≡ y.header → x.image ≡ y.image → x.entry ≡ y.entry → x.place ≡ y.place → x.moment ≡ y.moment → x ≡ y
+pub same_row : (x y : Row) → x.header ≡ y.header → x.image ≡ y.image → x.entry ≡ y.entry → x.place ≡ y.place → x.moment ≡ y.moment → x ≡ y
 same_row x y header image entry place moment = λ i. record {
   header = header i;
   image = image i;

@@ -19,33 +19,45 @@ HasWalked bytes rest =
     (entry : ℕ) (moment : Moment) → pos 0 ≤ℤ moment.micros → moment.micros <ℤ pos 19_880_899_200_000_000
     → (rows : List Row) × AreWalked bytes rest entry moment rows
 
-none_placed : (entry : ℕ) (moment : Moment) (i : ℕ) (row : Row) → slice_get [] i ≡ Some row → IsPlaced entry moment i row
+pub none_placed : (entry : ℕ) (moment : Moment) (i : ℕ) (row : Row) → slice_get [] i ≡ Some row → IsPlaced entry moment i row
 none_placed entry moment i row e = cc
 
 pub walk_begins : (bytes : List ℕ) → HasWalked bytes bytes
 walk_begins bytes = λ entry moment since before. ([], record { split = refl; placed = none_placed entry moment })
 
+-- the row of the record in front, with this number
+pub record_row : (rest : List ℕ) (h : Header) → HasHeader rest h → (entry : ℕ) (moment : Moment) → pos 0 ≤ℤ moment.micros → moment.micros <ℤ pos 19_880_899_200_000_000
+    → (place : ℕ) → (row : Row) × (row.header ≡ h) × (row.image ≡ take h.length rest) × IsPlaced entry moment place row
+record_row rest h is entry moment since before place =
+    let size : length (take h.length rest) ≡ h.length = length-take-le h.length rest is.whole in (
+      record {
+        header = h;
+        image = take h.length rest;
+        entry = entry;
+        place = place;
+        moment = moment;
+        head = record_from rest (take h.length rest) h is refl size;
+        since_1970 = since;
+        before_2600 = before;
+      },
+      refl,
+      refl,
+      record { entry_is = refl; moment_is = refl; place_is = refl },
+    )
+
 -- one record more
+pub walked_more : (bytes rest : List ℕ) (h : Header) (entry : ℕ) (moment : Moment) (rows : List Row) (row : Row) → row.image ≡ take h.length rest → IsPlaced entry moment (length rows) row
+    → AreWalked bytes rest entry moment rows → AreWalked bytes (drop h.length rest) entry moment (rows ++ row ∷ [])
+walked_more bytes rest h entry moment rows row image placed far = record {
+  split = images_more bytes rest (take h.length rest) (drop h.length rest) rows row far.split image (take-append-drop h.length rest);
+  placed = placed_more entry moment rows row far.placed placed;
+}
+
 pub walks : (bytes rest : List ℕ) (h : Header) → HasHeader rest h → HasWalked bytes rest → HasWalked bytes (drop h.length rest)
 walks bytes rest h is walked = λ entry moment since before.
     let far = walked entry moment since before in
-    let size : length (take h.length rest) ≡ h.length = length-take-le h.length rest is.whole in
-    let row : Row = record {
-      header = h;
-      image = take h.length rest;
-      entry = entry;
-      place = length far.0;
-      moment = moment;
-      head = record_from rest (take h.length rest) h is refl size;
-      since_1970 = since;
-      before_2600 = before;
-    } in (
-      far.0 ++ row ∷ [],
-      record {
-        split = images_more bytes rest (take h.length rest) (drop h.length rest) far.0 row far.1.split refl (take-append-drop h.length rest);
-        placed = placed_more entry moment far.0 row far.1.placed (record { entry_is = refl; moment_is = refl; place_is = refl });
-      },
-    )
+    let row = record_row rest h is entry moment since before (length far.0) in
+    (far.0 ++ row.0 ∷ [], walked_more bytes rest h entry moment far.0 row.0 row.2 row.3 far.1)
 
 -- at the end
 pub walked_all : (bytes rest : List ℕ) → (length rest == 0) ≡ true → HasWalked bytes rest → HasRecords bytes

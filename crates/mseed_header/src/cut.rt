@@ -1,10 +1,9 @@
 ghost use Rattle.std.specs.Prelude.{◌≡◌, ℕ, ℤ, pos, ◌≤ℤ◌, ◌<ℤ◌, ◌<◌, ◌^◌, ◌⊎◌, length, Err, IfOk, IfErr};
 ghost use Rattle.list_laws.specs.Only.{IsOnly};
-ghost use Rattle.mseed_header.specs.Header.{IsRecord};
 ghost use Rattle.mseed_header.specs.Records.{AreRecords, RefusesBatch, IsBatchFault};
 
 use crate::{Header, RecordFault, Row, read_header};
-use exact_time::{Bytes, Many, Moment, OutOfMemory};
+use exact_time::{Many, Moment, OutOfMemory};
 use std::alloc::Global;
 use std::error::Error;
 use std::fmt;
@@ -38,34 +37,6 @@ impl From<OutOfMemory> for CutFault {
     }
 }
 
-// The row of a record.
-fn row_of(
-    alloc: Global,
-    header: Header,
-    image: &[u8],
-    entry: u64,
-    place: u32,
-    moment: Moment,
-) -> Result<Row, OutOfMemory>
-    requires head { IsRecord image.now header }
-    requires since_1970 { pos 0 ≤ℤ moment.micros }
-    requires before_2600 { moment.micros <ℤ pos 19_880_899_200_000_000 }
-    ensures image { IfOk result (λ row. row.image ≡ image.now) }
-    ensures entry { IfOk result (λ row. row.entry ≡ entry) }
-    ensures place { IfOk result (λ row. row.place ≡ place) }
-    ensures moment { IfOk result (λ row. row.moment ≡ moment) }
-{
-    let mut bytes = Bytes::new(alloc);
-    bytes.extend(image)?;
-    Ok(Row {
-        header,
-        image: bytes,
-        entry,
-        place,
-        moment,
-    })
-}
-
 /// The records that stand in the bytes end to end, as rows of one entry. No bytes give no rows.
 pub fn cut_records(
     alloc: Global,
@@ -92,7 +63,7 @@ pub fn cut_records(
         };
         let (image, after) = rest.split_at(header.length as usize);
         let place = rows.len() as u32;
-        rows.push(row_of(alloc, header, image, entry, place, moment)?)?;
+        rows.push(Row::of(alloc, header, image, entry, place, moment)?)?;
         rest = after;
     }
     Ok(rows)

@@ -1,8 +1,9 @@
-ghost use Rattle.std.specs.Prelude.{◌<ℤ◌, ◌≤ℤ◌, pos};
+ghost use Rattle.std.specs.Prelude.{◌≡◌, ◌<ℤ◌, ◌≤ℤ◌, pos, IfOk};
 ghost use Rattle.mseed_header.specs.Header.{IsRecord, IsRecord-prop};
 
 use crate::Header;
-use exact_time::{Bytes, Moment};
+use exact_time::{Bytes, Moment, OutOfMemory};
+use std::alloc::Global;
 
 /// A record as it came, with what its header says.
 #[derive(Debug, Drop)]
@@ -19,4 +20,35 @@ pub struct Row {
     pub ghost head: { IsRecord image header } by { IsRecord-prop image header },
     pub ghost since_1970: { pos 0 ≤ℤ moment.micros },
     pub ghost before_2600: { moment.micros <ℤ pos 19_880_899_200_000_000 },
+}
+
+impl Row {
+    /// The row of a record, whose bytes are `image`, with its own copy of them.
+    pub fn of(
+        alloc: Global,
+        header: Header,
+        image: &[u8],
+        entry: u64,
+        place: u32,
+        moment: Moment,
+    ) -> Result<Row, OutOfMemory>
+        requires head { IsRecord image.now header }
+        requires since_1970 { pos 0 ≤ℤ moment.micros }
+        requires before_2600 { moment.micros <ℤ pos 19_880_899_200_000_000 }
+        ensures header { IfOk result (λ row. row.header ≡ header) }
+        ensures image { IfOk result (λ row. row.image ≡ image.now) }
+        ensures entry { IfOk result (λ row. row.entry ≡ entry) }
+        ensures place { IfOk result (λ row. row.place ≡ place) }
+        ensures moment { IfOk result (λ row. row.moment ≡ moment) }
+    {
+        let mut bytes = Bytes::new(alloc);
+        bytes.extend(image)?;
+        Ok(Row {
+            header,
+            image: bytes,
+            entry,
+            place,
+            moment,
+        })
+    }
 }

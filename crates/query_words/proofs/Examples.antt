@@ -6,12 +6,12 @@ use Rattle.mseed_header.specs.declared.quality.Quality.TheVariants.{M}
 use Rattle.dataselect.specs.declared.query.Nodata.TheVariants.{NotFound}
 use Rattle.exact_time.specs.Decimals.{Unsigned}
 use Rattle.query_words.specs.declared.fault.QueryFault.TheVariants.{Unknown, Repeated}
-use Rattle.query_words.specs.declared.rows.Kind.TheVariants.{Seconds}
+use Rattle.query_words.specs.declared.rows.Kind.TheVariants.{Level, Seconds}
 use Rattle.query_words.specs.Bodies.{numbered, is_blank, lines_of, front_of, rest_of, parameter_of, fields_of, limit_text}
-use Rattle.query_words.specs.DataGet.{said, said_or}
+use Rattle.query_words.specs.Gets.{said, said_or}
 use Rattle.query_words.specs.Parameters.{parameter, numbered_from, RefusesParameter}
-use Rattle.query_words.specs.Rows.{Text, data_rows, data_options, row_of, kind_of}
-use Rattle.query_words.specs.Values.{quality_of, nodata_of, flag_of, IsMinimum}
+use Rattle.query_words.specs.Rows.{Text, data_rows, data_options, station_rows, row_of, kind_of}
+use Rattle.query_words.specs.Values.{quality_of, nodata_of, flag_of, IsMinimum, IsLeftOut}
 
 -- a name and its alias are one name, whatever their case
 network : row_of data_rows (codes "NetWork") ≡ row_of data_rows (codes "net")
@@ -103,3 +103,13 @@ six = refl
 
 no_limit : limit_text (codes "*") ≡ None
 no_limit = refl
+
+-- the names of station: one of them has an alias, one value is left out, and so is one name with every value
+least_latitude : row_of station_rows (codes "MinLat") ≡ Some 11
+least_latitude = refl
+
+response : IsLeftOut Level (codes "response")
+response = refl
+
+radius : IsLeftOut (kind_of station_rows 22) (codes "1")
+radius = tt

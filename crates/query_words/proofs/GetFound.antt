@@ -9,7 +9,8 @@ use Rattle.channel_globs.specs.PatternText.{IsPatternList}
 use Rattle.dataselect.specs.declared.query.Nodata.TheVariants.{Quiet}
 use Rattle.dataselect.specs.declared.query.DataQuery.{DataQuery}
 use Rattle.dataselect.specs.declared.query.Selection.{Selection}
-use Rattle.query_words.specs.DataGet.{text_or, said_or, IsLimit, IsInTime, AreCodes, AreLimits, AreOptions, IsRight, IsDataGet, IsGetFault}
+use Rattle.query_words.specs.DataGet.{AreOptions, IsDataGet, IsBackwards, IsGetFault}
+use Rattle.query_words.specs.Gets.{text_or, said_or, IsLimit, IsInTime, AreCodes, AreLimits, IsRight, IsFaultBy}
 use Rattle.query_words.specs.FirstRefusals.{AreTaken, IsFirstRefusal}
 use Rattle.query_words.specs.Parameters.{Parameter, pairs_of, parameters_of, given, is_row, TakesParameter, RefusesParameter}
 use Rattle.query_words.specs.Rows.{Text, Named, row_of, kind_of, data_rows}
@@ -46,13 +47,13 @@ pub default_reads : (k : Kind) (default : Text) → CanRead k default → (given
 default_reads k default can None h = can
 default_reads k default can (Some text) h = h text refl
 
-any_list : (part : Part) → CanRead (kind.Patterns part) (codes "*")
+pub any_list : (part : Part) → CanRead (kind.Patterns part) (codes "*")
 any_list Network = (codes "*" ∷ [], record { few = omega arith; each = refl })
 any_list Station = (codes "*" ∷ [], record { few = omega arith; each = refl })
 any_list Location = (codes "*" ∷ [], record { few = omega arith; each = refl })
 any_list Channel = (codes "*" ∷ [], record { few = omega arith; each = refl })
 
-limit_given : (given : Option Text) → ((text : Text) → given ≡ Some text → CanRead kind.Time text) → (limit : Option Moment) × IsLimit given limit
+pub limit_given : (given : Option Text) → ((text : Text) → given ≡ Some text → CanRead kind.Time text) → (limit : Option Moment) × IsLimit given limit
 limit_given None h = (None, refl)
 limit_given (Some text) h = let is = h text refl in (Some (record { micros = is.0 }), (record { micros = is.0 }, refl, is.1))
 
@@ -86,7 +87,7 @@ module _ (ps : List Parameter) (taken : AreTaken (TakesParameter data_rows) [] p
       default_reads (kind.Patterns part) (codes "*") (any_list part) (given data_rows row ps) (λ text e. subst (λ (k : Kind). CanRead k text) is (given_reads data_rows row [] ps taken text e))
 
   -- there is a selection in each window
-  selection_found : (start end : Option Moment) → (s : Selection) × (s.start ≡ start) × (s.end ≡ end) × AreCodes ps s
+  selection_found : (start end : Option Moment) → (s : Selection) × (s.start ≡ start) × (s.end ≡ end) × AreCodes data_rows ps s
   selection_found start end =
       let network = list_under Network 2 refl in
       let station = list_under Station 3 refl in
@@ -98,7 +99,7 @@ module _ (ps : List Parameter) (taken : AreTaken (TakesParameter data_rows) [] p
         record { network_is = network.1; station_is = station.1; location_is = location.1; channel_is = channel.1 },
       )
 
-  limits_found : (start : Option Moment) × (end : Option Moment) × AreLimits ps start end
+  limits_found : (start : Option Moment) × (end : Option Moment) × AreLimits data_rows ps start end
   limits_found =
       let start = limit_given (given data_rows 0 ps) (given_reads data_rows 0 [] ps taken) in
       let end = limit_given (given data_rows 1 ps) (given_reads data_rows 1 [] ps taken) in
@@ -119,7 +120,7 @@ abbrev Answer : Text → Type 0
 Answer query = (answer : Result DataQuery QueryFault) × IsOnly (IsDataGet query) (IsGetFault query) answer
 
 -- right parameters ask for a query, or their times are backwards
-right_answer : (query : Text) → IsRight query → Answer query
+right_answer : (query : Text) → IsRight data_rows query → Answer query
 right_answer query right =
     let limits = limits_found (parameters_of query) right.taken in
     elim (in_time_or_backwards limits.0 limits.1) [
@@ -129,7 +130,7 @@ right_answer query right =
           right = right;
           from = turned.0;
           to = turned.1;
-          window = subst (λ (m : Option Moment). AreLimits (parameters_of query) (Some turned.0) m) turned.3 (subst (λ (m : Option Moment). AreLimits (parameters_of query) m limits.1) turned.2 limits.2);
+          window = subst (λ (m : Option Moment). AreLimits data_rows (parameters_of query) (Some turned.0) m) turned.3 (subst (λ (m : Option Moment). AreLimits data_rows (parameters_of query) m limits.1) turned.2 limits.2);
           order = turned.4;
         }),
       )
@@ -142,23 +143,23 @@ right_answer query right =
               selection = s.0;
               only = q.1;
               names = s.3;
-              window = subst (λ (m : Option Moment). AreLimits (parameters_of query) s.0.start m) (sym s.2) (subst (λ (m : Option Moment). AreLimits (parameters_of query) m limits.1) (sym s.1) limits.2);
+              window = subst (λ (m : Option Moment). AreLimits data_rows (parameters_of query) s.0.start m) (sym s.2) (subst (λ (m : Option Moment). AreLimits data_rows (parameters_of query) m limits.1) (sym s.1) limits.2);
               in_time = subst (λ (m : Option Moment). IsInTime s.0.start m) (sym s.2) (subst (λ (m : Option Moment). IsInTime m limits.1) (sym s.1) forwards);
               options = q.2;
             }),
           )
     ]
 
-wrong_answer : (query : Text) → length (pairs_of query) ≤ 1000 → (fault : QueryFault) → IsFirstRefusal (TakesParameter data_rows) (RefusesParameter data_rows) (parameters_of query) fault → IsGetFault query fault
-wrong_answer query few (Unknown n) h = record { few = few; first = h }
-wrong_answer query few (Repeated n) h = record { few = few; first = h }
-wrong_answer query few (OutOfScope n) h = record { few = few; first = h }
-wrong_answer query few (Value n) h = record { few = few; first = h }
-wrong_answer query few TooMany h = absurd h.refused
-wrong_answer query few (Line n) h = h.refused
-wrong_answer query few Order h = absurd h.refused
-wrong_answer query few NoLine h = h.refused
-wrong_answer query few OutOfMemory h = h.refused
+pub wrong_answer : (rows : List Named) (Turned : Text → Type 0) (query : Text) → length (pairs_of query) ≤ 1000 → (fault : QueryFault) → IsFirstRefusal (TakesParameter rows) (RefusesParameter rows) (parameters_of query) fault → IsFaultBy rows Turned query fault
+wrong_answer rows Turned query few (Unknown n) h = record { few = few; first = h }
+wrong_answer rows Turned query few (Repeated n) h = record { few = few; first = h }
+wrong_answer rows Turned query few (OutOfScope n) h = record { few = few; first = h }
+wrong_answer rows Turned query few (Value n) h = record { few = few; first = h }
+wrong_answer rows Turned query few TooMany h = absurd h.refused
+wrong_answer rows Turned query few (Line n) h = h.refused
+wrong_answer rows Turned query few Order h = absurd h.refused
+wrong_answer rows Turned query few NoLine h = h.refused
+wrong_answer rows Turned query few OutOfMemory h = h.refused
 
 -- every query string is one query, or has one fault
 pub get_or_fault : (query : Text) → Answer query
@@ -167,6 +168,6 @@ get_or_fault query =
       | inl many ↦ (Err TooMany, only_get query (Err TooMany) many)
       | inr few ↦ elim (taken_or_refused (TakesParameter data_rows) (RefusesParameter data_rows) (parameter_found data_rows) (parameters_of query)) [
         | inl taken ↦ right_answer query (record { few = few; taken = taken })
-        | inr first ↦ (Err first.0, only_get query (Err first.0) (wrong_answer query few first.0 first.1))
+        | inr first ↦ (Err first.0, only_get query (Err first.0) (wrong_answer data_rows IsBackwards query few first.0 first.1))
       ]
     ]

@@ -1,20 +1,53 @@
 -- The words of the parameters so far.
-use Rattle.std.proofs.Common.{◌≡◌, ℕ, ◌<◌, true, false, List, [], ◌∷◌, ◌++◌, Option, Some, None, length, get_or, set, replicate, refl, sym, ap, subst, ◌∙◌, ◌⊎◌, inl, inr}
+use Rattle.std.proofs.Common.{◌≡◌, ℕ, ℤ, ◌<◌, true, false, List, [], ◌∷◌, ◌++◌, Option, Some, None, length, get_or, set, replicate, refl, sym, ap, subst, ◌∙◌, ◌⊎◌, inl, inr}
 use Rattle.std.specs.Option.{is_some}
 use Rattle.std.proofs.lemmas.Bool.{cases_eq}
 use Rattle.std.proofs.lemmas.List.{append_assoc, length-set, get_or-set_same, get_or-set_other, get_or-replicate, length-replicate}
 use Rattle.query_words.specs.declared.fault.QueryFault.{QueryFault}
 use Rattle.query_words.specs.declared.fault.QueryFault.TheVariants.{TooMany, Unknown, Repeated, OutOfScope, Value, Line, Order, NoLine, OutOfMemory}
 use Rattle.query_words.specs.declared.rows.Kind.{Kind}
+use Rattle.query_words.specs.declared.rows.Kind.TheVariants as kind
 use Rattle.query_words.specs.declared.words.Word.{Word}
 use Rattle.query_words.specs.declared.words.Word.TheVariants as word
 use Rattle.query_words.specs.FirstRefusals.{IsFirstRefusal}
 use Rattle.query_words.specs.Parameters.{Parameter, given, TakesParameter, RefusesParameter}
 use Rattle.query_words.specs.Rows.{Named, row_of, kind_of}
 use Rattle.query_words.specs.Values.{CanRead}
-use Rattle.query_words.specs.Words.{IsWord, ReadsWord, IsHeld, AreHeld, HasRead, PutsWord, RefusesPut, RefusesWords}
+use Rattle.query_words.specs.Words.{IsWord, IsDegreesOf, SaysNothing, ReadsWord, IsHeld, AreHeld, HasRead, PutsWord, RefusesPut, RefusesWords}
 use Rattle.query_words.proofs.RefusalLaws.{taken_more}
 use Rattle.query_words.proofs.RowPlaces.{within_rows, given_last, given_other}
+
+degrees_read : (k : Kind) (text : List ℕ) (n : ℤ) → IsDegreesOf k text n → CanRead k text
+degrees_read kind.Latitude text n h = (n, h)
+degrees_read kind.Longitude text n h = (n, h)
+degrees_read kind.Time text n h = absurd h
+degrees_read (kind.Patterns part) text n h = absurd h
+degrees_read kind.Nodata text n h = absurd h
+degrees_read kind.Quality text n h = absurd h
+degrees_read kind.Seconds text n h = absurd h
+degrees_read kind.Flag text n h = absurd h
+degrees_read kind.Format text n h = absurd h
+degrees_read kind.Level text n h = absurd h
+degrees_read kind.TextForm text n h = absurd h
+degrees_read kind.Always text n h = absurd h
+degrees_read kind.Never text n h = absurd h
+degrees_read kind.LeftOut text n h = absurd h
+
+nothing_read : (k : Kind) (text : List ℕ) → SaysNothing k text → CanRead k text
+nothing_read kind.Format text h = h
+nothing_read kind.TextForm text h = h
+nothing_read kind.Always text h = h
+nothing_read kind.Never text h = h
+nothing_read kind.Time text h = absurd h
+nothing_read (kind.Patterns part) text h = absurd h
+nothing_read kind.Nodata text h = absurd h
+nothing_read kind.Quality text h = absurd h
+nothing_read kind.Seconds text h = absurd h
+nothing_read kind.Flag text h = absurd h
+nothing_read kind.Level text h = absurd h
+nothing_read kind.Latitude text h = absurd h
+nothing_read kind.Longitude text h = absurd h
+nothing_read kind.LeftOut text h = absurd h
 
 -- a kind with a word can be read
 can_read : (k : Kind) (text : List ℕ) (w : Word) → IsWord k text w → CanRead k text
@@ -24,7 +57,9 @@ can_read k text (word.Nodata nodata) h = subst (λ (k : Kind). CanRead k text) (
 can_read k text (word.Quality quality) h = subst (λ (k : Kind). CanRead k text) (sym h.0) (quality, h.1)
 can_read k text (word.Micros micros) h = subst (λ (k : Kind). CanRead k text) (sym h.0) (micros, h.1)
 can_read k text (word.Flag flag) h = subst (λ (k : Kind). CanRead k text) (sym h.0) (flag, h.1)
-can_read k text word.Format h = subst (λ (k : Kind). CanRead k text) (sym h.0) h.1
+can_read k text (word.Level level) h = subst (λ (k : Kind). CanRead k text) (sym h.0) (level, h.1)
+can_read k text (word.Number n) h = degrees_read k text n.millionths h
+can_read k text word.Nothing h = nothing_read k text h
 
 nothing_given : (k : Kind) (o : Option (List ℕ)) (held : Option Word) → IsHeld k o held → held ≡ None → o ≡ None
 nothing_given k None held h e = refl

@@ -2,10 +2,12 @@ pub mod Examples
 pub mod FrontSteps
 pub mod GetFound
 pub mod Held
-pub mod LineCuts
 pub mod Minimums
 pub mod OneDataGet
 pub mod OneDataPost
+pub mod OneGet
+pub mod OnePost
+pub mod OneStation
 pub mod PairSteps
 pub mod PostFound
 pub mod PostSteps
@@ -13,4 +15,7 @@ pub mod RefusalLaws
 pub mod RowPlaces
 pub mod SaidWords
 pub mod SelectionSteps
+pub mod StationFound
+pub mod StationPosts
+pub mod StationSteps
 pub mod ValuesFound

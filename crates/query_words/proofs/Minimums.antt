@@ -1,11 +1,11 @@
 -- Values that can't be read.
-use Rattle.std.proofs.Common.{◌≡◌, ℕ, List, pos, Result, Ok, sym, ap, arith}
+use Rattle.std.proofs.Common.{◌≡◌, ℕ, ℤ, List, pos, Result, Ok, Err, refl, sym, ap, arith}
 use Rattle.std.proofs.lemmas.Int.{ints}
 use Rattle.list_laws.specs.Only.{IsOnly}
 use Rattle.exact_time.specs.declared.decimal.Decimal.{Decimal}
 use Rattle.exact_time.specs.declared.moment.TimeFault.{TimeFault}
 use Rattle.exact_time.specs.Decimals.{IsDecimal, RefusesDecimal}
-use Rattle.exact_time.proofs.DecimalTexts.{only_decimal}
+use Rattle.exact_time.proofs.DecimalTexts.{number_or_fault, only_decimal}
 use Rattle.channel_globs.specs.declared.nslc.Part.{Part}
 use Rattle.channel_globs.specs.declared.patterns.GlobFault.{GlobFault}
 use Rattle.channel_globs.specs.declared.patterns.GlobFault.TheVariants.{TooMany, Character, Length, OutOfMemory}
@@ -35,3 +35,21 @@ refused_list part text TooMany h = λ list. no_list part text list.0 TooMany lis
 refused_list part text Character h = λ list. no_list part text list.0 Character list.1 h
 refused_list part text Length h = λ list. no_list part text list.0 Length list.1 h
 refused_list part text OutOfMemory h = tt
+
+-- a text is one decimal
+pub one_decimal : (text : List ℕ) (a b : ℤ) → IsDecimal text a → IsDecimal text b → a ≡ b
+one_decimal text a b h k =
+    let w = number_or_fault text in
+    let x = w.1.only (Ok a) h in
+    let y = w.1.only (Ok b) k in
+    cc
+
+-- and none where no decimal was read
+pub no_decimal : (text : List ℕ) (answer : Result Decimal TimeFault) → IsOnly (λ (d : Decimal). IsDecimal text d.millionths) (RefusesDecimal text) answer → ((d : Decimal) → answer ≡ Ok d → ⊥)
+    → (n : ℤ) → IsDecimal text n → ⊥
+no_decimal text (Ok d) only none n h = none d refl
+no_decimal text (Err fault) only none n h =
+    let w = number_or_fault text in
+    let x = w.1.only (Ok n) h in
+    let y = w.1.only (Err fault) only.right in
+    cc

@@ -1,240 +1,32 @@
--- A body spells one query, or has one fault.
-use Rattle.std.proofs.Common.{◌≡◌, ◌⊎◌, inl, inr, ℕ, ◌<◌, List, [], ◌∷◌, Result, Ok, Err, MatchResult, length, refl, sym, ap, subst, ◌∙◌, arith}
-use Rattle.std.specs.Str.{IsAscii, IsNotAscii}
+-- A body asks dataselect for one query, or has one fault.
+use Rattle.std.proofs.Common.{◌≡◌, ◌⊎◌, [], Result, Ok, Err, MatchResult}
 use Rattle.list_laws.specs.Only.{IsOnly}
 use Rattle.list_laws.proofs.Answers.{only_from}
-use Rattle.channel_globs.specs.declared.nslc.Part.TheVariants.{Network, Station, Location, Channel}
-use Rattle.channel_globs.proofs.OneList.{one_list}
 use Rattle.dataselect.specs.declared.query.DataQuery.{DataQuery}
-use Rattle.dataselect.specs.declared.query.Selection.{Selection}
-use Rattle.query_words.specs.Bodies.{Numbered, Fields, AreSix, AreFields, IsSelection, AreSelections, TakesLine, RefusesLine, TakesSelection, RefusesSelection, parameters_in, parameter_of, front_of, rest_of, limit_text}
-use Rattle.query_words.specs.DataPost.{AreFew, IsRightFront, IsDataPost, IsWrongFront, IsWrongRest, IsFirstWrongLine, HasNoSelection, IsPostFault, RefusesPost}
-use Rattle.query_words.specs.FirstRefusals.{AreTaken, IsFirstRefusal}
-use Rattle.query_words.specs.Fronts.{RefusesFront}
-use Rattle.query_words.specs.Parameters.{RefusesParameter}
-use Rattle.query_words.specs.Rows.{Text, Named, data_options}
-use Rattle.query_words.specs.Selecting.{RefusesRest}
+use Rattle.query_words.specs.Bodies.{parameters_in, front_of, rest_of}
+use Rattle.query_words.specs.DataPost.{IsDataPost, IsTurned, IsPostFault, RefusesPost}
+use Rattle.query_words.specs.Posts.{IsRightBody}
+use Rattle.query_words.specs.Rows.{Text, data_options}
 use Rattle.query_words.specs.declared.fault.QueryFault.{QueryFault}
-use Rattle.query_words.specs.declared.fault.QueryFault.TheVariants.{TooMany, Unknown, Repeated, OutOfScope, Value, Line, Order, NoLine, OutOfMemory}
-use Rattle.query_words.proofs.OneDataGet.{taken_apart, one_wrong, one_limit, one_made}
-use Rattle.query_words.proofs.RefusalLaws.{none_refused, one_refused}
+use Rattle.query_words.specs.declared.fault.QueryFault.TheVariants.{OutOfMemory}
+use Rattle.query_words.proofs.OneDataGet.{one_made}
+use Rattle.query_words.proofs.OnePost.{one_selections, no_fault, one_fault, refused_or_starved}
 use Rattle.query_words.proofs.SelectionSteps.{selections_taken}
-
-pub not_both : (text : Text) → IsAscii text → IsNotAscii text → ⊥
-not_both text h k = let low = h k.0 in omega (arith, low, k.1)
-
-module _ (rows : List Named) (before : List Numbered) (l : Numbered) where
-  line_apart : (fault : QueryFault) → TakesLine rows before l → RefusesLine rows before l fault → ⊥
-  line_apart (Line n) h k = not_both l.text h.ascii k.1
-  line_apart (Unknown n) h k = taken_apart rows (parameters_in before) (parameter_of l) (Unknown n) h.takes k.1
-  line_apart (Repeated n) h k = taken_apart rows (parameters_in before) (parameter_of l) (Repeated n) h.takes k.1
-  line_apart (OutOfScope n) h k = taken_apart rows (parameters_in before) (parameter_of l) (OutOfScope n) h.takes k.1
-  line_apart (Value n) h k = taken_apart rows (parameters_in before) (parameter_of l) (Value n) h.takes k.1
-  line_apart TooMany h k = k
-  line_apart Order h k = k
-  line_apart NoLine h k = k
-  line_apart OutOfMemory h k = k
-
-  -- a wrong line has a byte outside ASCII, or a wrong parameter
-  data Wrong (fault : QueryFault) : Type 0 where
-    bytes : (n : ℕ) → fault ≡ Line n → n ≡ l.number → IsNotAscii l.text → Wrong fault
-    words : IsAscii l.text → RefusesParameter rows (parameters_in before) (parameter_of l) fault → Wrong fault
-
-  wrong : (fault : QueryFault) → RefusesLine rows before l fault → Wrong fault
-  wrong (Line n) h = bytes n refl h.0 h.1
-  wrong (Unknown n) h = words h.0 h.1
-  wrong (Repeated n) h = words h.0 h.1
-  wrong (OutOfScope n) h = words h.0 h.1
-  wrong (Value n) h = words h.0 h.1
-  wrong TooMany h = absurd h
-  wrong Order h = absurd h
-  wrong NoLine h = absurd h
-  wrong OutOfMemory h = absurd h
-
-  one_of_wrong : (f g : QueryFault) → Wrong f → Wrong g → f ≡ g
-  one_of_wrong f g (bytes n a h x) (bytes m b k y) = a ∙ ap Line (h ∙ sym k) ∙ sym b
-  one_of_wrong f g (bytes n a h x) (words y k) = absurd (not_both l.text y x)
-  one_of_wrong f g (words x h) (bytes m b k y) = absurd (not_both l.text x y)
-  one_of_wrong f g (words x h) (words y k) = one_wrong rows (parameters_in before) (parameter_of l) f g h k
-
-  line_one : (f g : QueryFault) → RefusesLine rows before l f → RefusesLine rows before l g → f ≡ g
-  line_one f g h k = one_of_wrong f g (wrong f h) (wrong g k)
-
-selection_apart : (before : List Numbered) (l : Numbered) (fault : QueryFault) → TakesSelection before l → RefusesSelection before l fault → ⊥
-selection_apart before l (Line n) h k = k.1 h.0 h.1
-selection_apart before l (Unknown n) h k = k
-selection_apart before l (Repeated n) h k = k
-selection_apart before l (OutOfScope n) h k = k
-selection_apart before l (Value n) h k = k
-selection_apart before l TooMany h k = k
-selection_apart before l Order h k = k
-selection_apart before l NoLine h k = k
-selection_apart before l OutOfMemory h k = k
-
-line_number : (before : List Numbered) (l : Numbered) (fault : QueryFault) → RefusesSelection before l fault → fault ≡ Line l.number
-line_number before l (Line n) h = ap Line h.0
-line_number before l (Unknown n) h = absurd h
-line_number before l (Repeated n) h = absurd h
-line_number before l (OutOfScope n) h = absurd h
-line_number before l (Value n) h = absurd h
-line_number before l TooMany h = absurd h
-line_number before l Order h = absurd h
-line_number before l NoLine h = absurd h
-line_number before l OutOfMemory h = absurd h
-
-selection_one : (before : List Numbered) (l : Numbered) (f g : QueryFault) → RefusesSelection before l f → RefusesSelection before l g → f ≡ g
-selection_one before l f g h k = line_number before l f h ∙ sym (line_number before l g k)
-
-no_front_fault : (ls : List Numbered) (f : QueryFault) → AreTaken (TakesLine data_options) [] ls → IsFirstRefusal (TakesLine data_options) (RefusesLine data_options) ls f → ⊥
-no_front_fault ls f all h =
-    none_refused (TakesLine data_options) (RefusesLine data_options) (λ before l fault t r. line_apart data_options before l fault t r) (λ before l a b x y. line_one data_options before l a b x y) ls f all h
-
-one_front_fault : (ls : List Numbered) (f g : QueryFault) → IsFirstRefusal (TakesLine data_options) (RefusesLine data_options) ls f
-    → IsFirstRefusal (TakesLine data_options) (RefusesLine data_options) ls g → f ≡ g
-one_front_fault ls f g h k =
-    one_refused (TakesLine data_options) (RefusesLine data_options) (λ before l fault t r. line_apart data_options before l fault t r) (λ before l a b x y. line_one data_options before l a b x y) ls f g h k
-
-no_rest_fault : (ls : List Numbered) (f : QueryFault) → AreTaken TakesSelection [] ls → IsFirstRefusal TakesSelection RefusesSelection ls f → ⊥
-no_rest_fault ls f all h = none_refused TakesSelection RefusesSelection selection_apart selection_one ls f all h
-
-one_rest_fault : (ls : List Numbered) (f g : QueryFault) → IsFirstRefusal TakesSelection RefusesSelection ls f → IsFirstRefusal TakesSelection RefusesSelection ls g → f ≡ g
-one_rest_fault ls f g h k = one_refused TakesSelection RefusesSelection selection_apart selection_one ls f g h k
-
-pub one_fields : (fields : List Text) (f g : Fields) → AreSix fields f → AreSix fields g → f ≡ g
-one_fields fields f g h k =
-    let e : f.network ∷ f.station ∷ f.location ∷ f.channel ∷ f.start ∷ f.end ∷ [] ≡ g.network ∷ g.station ∷ g.location ∷ g.channel ∷ g.start ∷ g.end ∷ [] = sym h ∙ k in
-    let network : f.network ≡ g.network = cc in
-    let station : f.station ≡ g.station = cc in
-    let location : f.location ≡ g.location = cc in
-    let channel : f.channel ≡ g.channel = cc in
-    let start : f.start ≡ g.start = cc in
-    let end : f.end ≡ g.end = cc in
-    λ i. record { network = network i; station = station i; location = location i; channel = channel i; start = start i; end = end i }
-
-of_fields : (f : Fields) (s t : Selection) → AreFields f s → AreFields f t → s ≡ t
-of_fields f s t h k =
-    let network = one_list Network f.network s.network t.network h.code_fields.network_is k.code_fields.network_is in
-    let station = one_list Station f.station s.station t.station h.code_fields.station_is k.code_fields.station_is in
-    let location = one_list Location f.location s.location t.location h.code_fields.location_is k.code_fields.location_is in
-    let channel = one_list Channel f.channel s.channel t.channel h.code_fields.channel_is k.code_fields.channel_is in
-    let start = one_limit (limit_text f.start) s.start t.start h.window.start_is k.window.start_is in
-    let end = one_limit (limit_text f.end) s.end t.end h.window.end_is k.window.end_is in
-    λ i. record { network = network i; station = station i; location = location i; channel = channel i; start = start i; end = end i }
-
-one_selection : (text : Text) (s t : Selection) → IsSelection text s → IsSelection text t → s ≡ t
-one_selection text s t h k =
-    let same = one_fields _ k.fields h.fields k.fields_are h.fields_are in
-    of_fields h.fields s t h.spells (subst (λ (f : Fields). AreFields f t) same k.spells)
-
-one_selections : (ls : List Numbered) (ss ts : List Selection) → AreSelections ls ss → AreSelections ls ts → ss ≡ ts
-one_selections [] [] [] h k = refl
-one_selections [] [] (t ∷ ts) h k = absurd k
-one_selections [] (s ∷ ss) ts h k = absurd h
-one_selections (l ∷ ls) [] ts h k = absurd h
-one_selections (l ∷ ls) (s ∷ ss) [] h k = absurd k
-one_selections (l ∷ ls) (s ∷ ss) (t ∷ ts) h k =
-    let first = one_selection l.text s t h.0 k.0 in
-    let others = one_selections ls ss ts h.1 k.1 in
-    λ i. first i ∷ others i
 
 one_query : (body : Text) (q r : DataQuery) → IsDataPost body q → IsDataPost body r → q ≡ r
 one_query body q r h k = one_made data_options (parameters_in (front_of body)) q r h.options k.options (one_selections (rest_of body) q.selections r.selections h.selections_are k.selections_are)
 
--- a fault is too many lines, the first wrong one, or that none selects
-data Why (body : Text) (fault : QueryFault) : Type 0 where
-  many : fault ≡ TooMany → (1000 < length (front_of body)) ⊎ (10_000 < length (rest_of body)) → Why body fault
-  line : IsFirstWrongLine body fault → Why body fault
-  none : fault ≡ NoLine → HasNoSelection body → Why body fault
-
-why : (body : Text) (fault : QueryFault) → IsPostFault body fault → Why body fault
-why body TooMany h = many refl h
-why body (Unknown n) h = line h
-why body (Repeated n) h = line h
-why body (OutOfScope n) h = line h
-why body (Value n) h = line h
-why body (Line n) h = line h
-why body NoLine h = none refl h
-why body Order h = absurd h
-why body OutOfMemory h = absurd h
-
-not_many : (body : Text) → AreFew body → (1000 < length (front_of body)) ⊎ (10_000 < length (rest_of body)) → ⊥
-not_many body few (inl more) = omega (arith, few.parameters, more)
-not_many body few (inr more) = omega (arith, few.selections, more)
-
-not_wrong : (body : Text) (fault : QueryFault) → AreTaken (TakesLine data_options) [] (front_of body) → AreTaken TakesSelection [] (rest_of body) → IsWrongFront body fault ⊎ IsWrongRest body fault → ⊥
-not_wrong body fault front rest (inl h) = no_front_fault (front_of body) fault front h
-not_wrong body fault front rest (inr h) = no_rest_fault (rest_of body) fault rest h.first
-
-one_line : (body : Text) (f g : QueryFault) → IsWrongFront body f ⊎ IsWrongRest body f → IsWrongFront body g ⊎ IsWrongRest body g → f ≡ g
-one_line body f g (inl h) (inl k) = one_front_fault (front_of body) f g h k
-one_line body f g (inl h) (inr k) = absurd (no_front_fault (front_of body) f k.taken h)
-one_line body f g (inr h) (inl k) = absurd (no_front_fault (front_of body) g h.taken k)
-one_line body f g (inr h) (inr k) = one_rest_fault (rest_of body) f g h.first k.first
-
-nothing_taken : (body : Text) → HasNoSelection body → AreTaken TakesSelection [] (rest_of body)
-nothing_taken body h = subst (λ (ls : List Numbered). AreTaken TakesSelection [] ls) (sym h.none) tt
-
-one_why : (body : Text) (f g : QueryFault) → Why body f → Why body g → f ≡ g
-one_why body f g (many a h) (many b k) = a ∙ sym b
-one_why body f g (many a h) (line k) = absurd (not_many body k.few h)
-one_why body f g (many a h) (none b k) = absurd (not_many body k.right.few h)
-one_why body f g (line h) (many b k) = absurd (not_many body h.few k)
-one_why body f g (line h) (line k) = one_line body f g h.first k.first
-one_why body f g (line h) (none b k) = absurd (not_wrong body f k.right.taken (nothing_taken body k) h.first)
-one_why body f g (none a h) (many b k) = absurd (not_many body h.right.few k)
-one_why body f g (none a h) (line k) = absurd (not_wrong body g h.right.taken (nothing_taken body h) k.first)
-one_why body f g (none a h) (none b k) = a ∙ sym b
-
-one_fault : (body : Text) (f g : QueryFault) → IsPostFault body f → IsPostFault body g → f ≡ g
-one_fault body f g h k = one_why body f g (why body f h) (why body g k)
-
-no_why : (body : Text) (q : DataQuery) (fault : QueryFault) → IsDataPost body q → Why body fault → ⊥
-no_why body q fault h (many a k) = not_many body h.right.few k
-no_why body q fault h (line k) = not_wrong body fault h.right.taken (selections_taken [] (rest_of body) q.selections h.selections_are) k.first
-no_why body q fault h (none a k) = let empty = ap length k.none in omega (arith, h.some, empty)
-
--- a body that spells a query has no fault
-no_fault : (body : Text) (q : DataQuery) (fault : QueryFault) → IsDataPost body q → IsPostFault body fault → ⊥
-no_fault body q fault h k = no_why body q fault h (why body fault k)
+right_body : (body : Text) (q : DataQuery) → IsDataPost body q → IsRightBody data_options body
+right_body body q h = record { right = h.right; rest = selections_taken [] (rest_of body) q.selections h.selections_are }
 
 pub only_post : (body : Text) (answer : Result DataQuery QueryFault) → MatchResult answer (IsDataPost body) (IsPostFault body) → IsOnly (IsDataPost body) (IsPostFault body) answer
-only_post body answer right = only_from (IsDataPost body) (IsPostFault body) (one_query body) (one_fault body) (no_fault body) answer right
+only_post body answer right =
+    only_from (IsDataPost body) (IsPostFault body) (one_query body) (one_fault data_options IsTurned body)
+    (λ q fault h k. no_fault data_options IsTurned body fault (right_body body q h) (λ t. t) h.some k) answer right
 
 pub only_read : (body : Text) (q : DataQuery) → IsDataPost body q → IsOnly (IsDataPost body) (IsPostFault body) (Ok q)
 only_read body q h = only_post body (Ok q) h
 
 -- the same of a reader that may want memory
 pub only_refused : (body : Text) (fault : QueryFault) → RefusesPost body fault → (fault ≡ OutOfMemory) ⊎ IsOnly (IsDataPost body) (IsPostFault body) (Err fault)
-only_refused body TooMany h = inr (only_post body (Err TooMany) h)
-only_refused body (Unknown n) h = inr (only_post body (Err (Unknown n)) h)
-only_refused body (Repeated n) h = inr (only_post body (Err (Repeated n)) h)
-only_refused body (OutOfScope n) h = inr (only_post body (Err (OutOfScope n)) h)
-only_refused body (Value n) h = inr (only_post body (Err (Value n)) h)
-only_refused body (Line n) h = inr (only_post body (Err (Line n)) h)
-only_refused body Order h = inr (only_post body (Err Order) h)
-only_refused body NoLine h = inr (only_post body (Err NoLine) h)
-only_refused body OutOfMemory h = inl refl
-
--- what the parameter lines are refused for, the body is
-pub front_refuses : (body : Text) (fault : QueryFault) → AreFew body → RefusesFront data_options (front_of body) fault → RefusesPost body fault
-front_refuses body TooMany few h = absurd h.refused
-front_refuses body (Unknown n) few h = record { few = few; first = inl h }
-front_refuses body (Repeated n) few h = record { few = few; first = inl h }
-front_refuses body (OutOfScope n) few h = record { few = few; first = inl h }
-front_refuses body (Value n) few h = record { few = few; first = inl h }
-front_refuses body (Line n) few h = record { few = few; first = inl h }
-front_refuses body Order few h = absurd h.refused
-front_refuses body NoLine few h = absurd h.refused
-front_refuses body OutOfMemory few h = tt
-
--- and what the lines behind them are
-pub rest_refuses : (body : Text) (fault : QueryFault) → IsRightFront body → RefusesRest (rest_of body) fault → RefusesPost body fault
-rest_refuses body (Line n) right h = record { few = right.few; first = inr (record { taken = right.taken; first = h }) }
-rest_refuses body OutOfMemory right h = tt
-rest_refuses body TooMany right h = absurd h.refused
-rest_refuses body (Unknown n) right h = absurd h.refused
-rest_refuses body (Repeated n) right h = absurd h.refused
-rest_refuses body (OutOfScope n) right h = absurd h.refused
-rest_refuses body (Value n) right h = absurd h.refused
-rest_refuses body Order right h = absurd h.refused
-rest_refuses body NoLine right h = absurd h.refused
+only_refused body fault h = refused_or_starved data_options IsTurned (IsDataPost body) body (only_post body) fault h

@@ -10,8 +10,10 @@ use Rattle.channel_globs.specs.declared.nslc.Part.TheVariants.{Network, Station,
 use Rattle.dataselect.specs.declared.query.DataQuery.{DataQuery}
 use Rattle.dataselect.specs.declared.query.Selection.{Selection}
 use Rattle.query_words.specs.Bodies.{Numbered, Fields, AreSix, AreFields, IsWindow, IsSelection, AreSelections, TakesLine, RefusesLine, TakesSelection, RefusesSelection, parameters_in, parameter_of, front_of, rest_of, fields_of, has_equals, limit_text}
-use Rattle.query_words.specs.DataGet.{IsLimit, AreOptions}
-use Rattle.query_words.specs.DataPost.{AreFew, IsRightFront, IsDataPost, IsWrongFront, IsWrongRest, IsPostFault}
+use Rattle.query_words.specs.DataGet.{AreOptions}
+use Rattle.query_words.specs.Gets.{IsLimit}
+use Rattle.query_words.specs.DataPost.{IsDataPost, IsTurned, IsPostFault}
+use Rattle.query_words.specs.Posts.{AreFew, IsRightFront, IsWrongFront, IsWrongRest, IsBodyFaultBy}
 use Rattle.query_words.specs.FirstRefusals.{AreTaken}
 use Rattle.query_words.specs.Parameters.{Parameter, given, TakesParameter, RefusesParameter}
 use Rattle.query_words.specs.Rows.{Text, Named, data_options}
@@ -19,8 +21,9 @@ use Rattle.query_words.specs.declared.fault.QueryFault.{QueryFault}
 use Rattle.query_words.specs.declared.fault.QueryFault.TheVariants.{TooMany, Unknown, Repeated, OutOfScope, Value, Line, Order, NoLine, OutOfMemory}
 use Rattle.query_words.specs.declared.rows.Kind.TheVariants as kind
 use Rattle.query_words.proofs.GetFound.{given_reads, default_reads, options_by, no_nodata, no_quality, no_seconds, no_flag, in_time_or_backwards}
-use Rattle.query_words.proofs.OneDataGet.{one_limit, not_backwards}
-use Rattle.query_words.proofs.OneDataPost.{not_both, one_fields, only_post}
+use Rattle.query_words.proofs.OneGet.{one_limit, not_backwards}
+use Rattle.query_words.proofs.OneDataPost.{only_post}
+use Rattle.query_words.proofs.OnePost.{not_both, one_fields}
 use Rattle.query_words.proofs.RefusalLaws.{taken_or_refused}
 use Rattle.query_words.proofs.ValuesFound.{Found, moment_found, list_found, parameter_found}
 
@@ -44,7 +47,7 @@ line_refused rows before l ascii NoLine h = h
 line_refused rows before l ascii OutOfMemory h = h
 
 -- a parameter line is taken behind those before it, or refused
-line_found : (rows : List Named) (before : List Numbered) (l : Numbered) → TakesLine rows before l ⊎ ((fault : QueryFault) × RefusesLine rows before l fault)
+pub line_found : (rows : List Named) (before : List Numbered) (l : Numbered) → TakesLine rows before l ⊎ ((fault : QueryFault) × RefusesLine rows before l fault)
 line_found rows before l =
     elim (ascii_or_not l.text) [
       | inr other ↦ inr (Line l.number, (refl, other))
@@ -128,18 +131,18 @@ selection_found text =
     ]
 
 -- a selection line is taken, or refused
-line_selects : (before : List Numbered) (l : Numbered) → TakesSelection before l ⊎ ((fault : QueryFault) × RefusesSelection before l fault)
+pub line_selects : (before : List Numbered) (l : Numbered) → TakesSelection before l ⊎ ((fault : QueryFault) × RefusesSelection before l fault)
 line_selects before l = elim (selection_found l.text) [ inl found ↦ inl found | inr none ↦ inr (Line l.number, (refl, none)) ]
 
 -- taken selection lines spell selections
-selections_of : (before ls : List Numbered) → AreTaken TakesSelection before ls → (ss : List Selection) × AreSelections ls ss
+pub selections_of : (before ls : List Numbered) → AreTaken TakesSelection before ls → (ss : List Selection) × AreSelections ls ss
 selections_of before [] taken = ([], tt)
 selections_of before (l ∷ ls) taken =
     let others = selections_of (before ++ l ∷ []) ls taken.1 in
     (taken.0.0 ∷ others.0, (taken.0.1, others.1))
 
 -- the parameters of taken lines are taken
-parameters_taken : (rows : List Named) (before ls : List Numbered) → AreTaken (TakesLine rows) before ls → AreTaken (TakesParameter rows) (parameters_in before) (parameters_in ls)
+pub parameters_taken : (rows : List Named) (before ls : List Numbered) → AreTaken (TakesLine rows) before ls → AreTaken (TakesParameter rows) (parameters_in before) (parameters_in ls)
 parameters_taken rows before [] taken = tt
 parameters_taken rows before (l ∷ ls) taken = (
   taken.0.takes,
@@ -156,15 +159,15 @@ options_found ps taken selections =
 abbrev Answer : Text → Type 0
 Answer body = (answer : Result DataQuery QueryFault) × IsOnly (IsDataPost body) (IsPostFault body) answer
 
-some_or_nothing : (ls : List Numbered) → (0 < length ls) ⊎ (ls ≡ [])
+pub some_or_nothing : (ls : List Numbered) → (0 < length ls) ⊎ (ls ≡ [])
 some_or_nothing [] = inr refl
 some_or_nothing (l ∷ ls) = inl (omega arith)
 
 -- right lines ask for a query, or none of them selects
-right_answer : (body : Text) → IsRightFront body → AreTaken TakesSelection [] (rest_of body) → Answer body
+right_answer : (body : Text) → IsRightFront data_options body → AreTaken TakesSelection [] (rest_of body) → Answer body
 right_answer body right taken =
     elim (some_or_nothing (rest_of body)) [
-      | inr nothing ↦ (Err NoLine, only_post body (Err NoLine) (record { right = right; none = nothing }))
+      | inr nothing ↦ (Err NoLine, only_post body (Err NoLine) (record { right = right; rest = taken }, λ t. t, nothing))
       | inl some ↦
           let ss = selections_of [] (rest_of body) taken in
           let q = options_found (parameters_in (front_of body)) (parameters_taken data_options [] (front_of body) right.taken) ss.0 in (
@@ -178,34 +181,34 @@ right_answer body right taken =
           )
     ]
 
-wrong_front : (body : Text) → AreFew body → (fault : QueryFault) → IsWrongFront body fault → IsPostFault body fault
-wrong_front body few (Unknown n) h = record { few = few; first = inl h }
-wrong_front body few (Repeated n) h = record { few = few; first = inl h }
-wrong_front body few (OutOfScope n) h = record { few = few; first = inl h }
-wrong_front body few (Value n) h = record { few = few; first = inl h }
-wrong_front body few (Line n) h = record { few = few; first = inl h }
-wrong_front body few TooMany h = absurd h.refused
-wrong_front body few Order h = h.refused
-wrong_front body few NoLine h = absurd h.refused
-wrong_front body few OutOfMemory h = h.refused
+pub wrong_front : (options : List Named) (Turned : Text → Type 0) (body : Text) → AreFew body → (fault : QueryFault) → IsWrongFront options body fault → IsBodyFaultBy options Turned body fault
+wrong_front options Turned body few (Unknown n) h = record { few = few; first = inl h }
+wrong_front options Turned body few (Repeated n) h = record { few = few; first = inl h }
+wrong_front options Turned body few (OutOfScope n) h = record { few = few; first = inl h }
+wrong_front options Turned body few (Value n) h = record { few = few; first = inl h }
+wrong_front options Turned body few (Line n) h = record { few = few; first = inl h }
+wrong_front options Turned body few TooMany h = absurd h.refused
+wrong_front options Turned body few Order h = absurd h.refused
+wrong_front options Turned body few NoLine h = absurd h.refused
+wrong_front options Turned body few OutOfMemory h = h.refused
 
-wrong_rest : (body : Text) → AreFew body → (fault : QueryFault) → IsWrongRest body fault → IsPostFault body fault
-wrong_rest body few (Line n) h = record { few = few; first = inr h }
-wrong_rest body few (Unknown n) h = absurd h.first.refused
-wrong_rest body few (Repeated n) h = absurd h.first.refused
-wrong_rest body few (OutOfScope n) h = absurd h.first.refused
-wrong_rest body few (Value n) h = absurd h.first.refused
-wrong_rest body few TooMany h = absurd h.first.refused
-wrong_rest body few Order h = h.first.refused
-wrong_rest body few NoLine h = absurd h.first.refused
-wrong_rest body few OutOfMemory h = h.first.refused
+pub wrong_rest : (options : List Named) (Turned : Text → Type 0) (body : Text) → AreFew body → (fault : QueryFault) → IsWrongRest options body fault → IsBodyFaultBy options Turned body fault
+wrong_rest options Turned body few (Line n) h = record { few = few; first = inr h }
+wrong_rest options Turned body few (Unknown n) h = absurd h.first.refused
+wrong_rest options Turned body few (Repeated n) h = absurd h.first.refused
+wrong_rest options Turned body few (OutOfScope n) h = absurd h.first.refused
+wrong_rest options Turned body few (Value n) h = absurd h.first.refused
+wrong_rest options Turned body few TooMany h = absurd h.first.refused
+wrong_rest options Turned body few Order h = absurd h.first.refused
+wrong_rest options Turned body few NoLine h = absurd h.first.refused
+wrong_rest options Turned body few OutOfMemory h = h.first.refused
 
 few_answer : (body : Text) → AreFew body → Answer body
 few_answer body few =
     elim (taken_or_refused (TakesLine data_options) (RefusesLine data_options) (line_found data_options) (front_of body)) [
-      | inr first ↦ (Err first.0, only_post body (Err first.0) (wrong_front body few first.0 first.1))
+      | inr first ↦ (Err first.0, only_post body (Err first.0) (wrong_front data_options IsTurned body few first.0 first.1))
       | inl front ↦ elim (taken_or_refused TakesSelection RefusesSelection line_selects (rest_of body)) [
-        | inr first ↦ (Err first.0, only_post body (Err first.0) (wrong_rest body few first.0 (record { taken = front; first = first.1 })))
+        | inr first ↦ (Err first.0, only_post body (Err first.0) (wrong_rest data_options IsTurned body few first.0 (record { taken = front; first = first.1 })))
         | inl rest ↦ right_answer body (record { few = few; taken = front }) rest
       ]
     ]

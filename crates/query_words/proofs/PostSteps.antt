@@ -10,20 +10,27 @@ use Rattle.query_words.specs.declared.lines.BodyLine.{BodyLine}
 use Rattle.query_words.specs.declared.rows.Row.{Row}
 use Rattle.query_words.specs.declared.words.Word.{Word}
 use Rattle.query_words.specs.Bodies.{Numbered, seen, lines_of, front_count, front_of, rest_of, parameters_in, AreSelections}
-use Rattle.query_words.specs.DataGet.{said_or, AreOptions}
-use Rattle.query_words.specs.DataPost.{AreFew, IsRightFront, IsDataPost, HasNoSelection, RefusesPost}
+use Rattle.query_words.specs.DataGet.{AreOptions}
+use Rattle.query_words.specs.Gets.{said_or}
+use Rattle.query_words.specs.DataPost.{IsDataPost, IsTurned}
+use Rattle.query_words.specs.Posts.{AreFew, IsRightFront, IsRightBody, IsBodyFaultBy, RefusesBodyBy}
+use Rattle.query_words.specs.declared.fault.QueryFault.TheVariants.{NoLine}
 use Rattle.query_words.specs.Extracts.{AreOptionWords, IsMade}
 use Rattle.query_words.specs.Fronts.{HasFront, RefusesFront}
 use Rattle.query_words.specs.Parameters.{Parameter}
-use Rattle.query_words.specs.Rows.{Text, Named, rows_of, data_rows, data_options, named}
+use Rattle.query_words.specs.Rows.{Text, Named, rows_of, data_rows, data_options, station_rows, station_options, named}
 use Rattle.query_words.specs.Selecting.{RefusesRest}
 use Rattle.query_words.specs.Values.{IsMinimum}
 use Rattle.query_words.specs.Words.{AreHeld}
-use Rattle.query_words.proofs.OneDataPost.{front_refuses, rest_refuses}
+use Rattle.query_words.proofs.OnePost.{front_refuses, rest_refuses}
+use Rattle.query_words.proofs.SelectionSteps.{selections_taken}
 use Rattle.query_words.proofs.SaidWords.{nodata_said, quality_said, minimum_said, flag_said}
 
 pub option_rows : (rows : List Row) → rows_of rows ≡ data_rows → rows_of (take 5 (drop 6 rows)) ≡ data_options
 option_rows rows is = sym (take-map named 5 (drop 6 rows)) ∙ ap (take 5) (sym (drop-map named 6 rows)) ∙ ap (λ (rs : List Named). take 5 (drop 6 rs)) is
+
+pub station_option_rows : (rows : List Row) → rows_of rows ≡ station_rows → rows_of (take 19 (drop 6 rows)) ≡ station_options
+station_option_rows rows is = sym (take-map named 19 (drop 6 rows)) ∙ ap (take 19) (sym (drop-map named 6 rows)) ∙ ap (λ (rs : List Named). take 19 (drop 6 rs)) is
 
 options_posted : (ps : List Parameter) (words : List (Option Word)) → AreHeld data_options ps words → (selections : List Selection) (o : Options) (q : DataQuery) → AreOptionWords words 0 o
     → IsMade selections o q → AreOptions data_options ps q
@@ -44,8 +51,9 @@ no_lines [] ss all none = refl
 no_lines (l ∷ ls) [] all none = absurd all
 no_lines (l ∷ ls) (s ∷ ss) all none = cc
 
-module _ (body : Text) (rows : List Row) (lines : List BodyLine) (front : ℕ) (rows_are : rows_of rows ≡ data_rows) (is : map seen lines ≡ lines_of body) (at : front ≡ front_count (map seen lines))
-    (first : front ≤ 1000) (others : length lines - front ≤ 10_000) where
+-- a body of a method with these options, whose table has them behind its first six rows
+module _ (options : List Named) (Turned : Text → Type 0) (body : Text) (many : ℕ) (rows : List Row) (lines : List BodyLine) (front : ℕ) (rows_are : rows_of (take many (drop 6 rows)) ≡ options)
+    (is : map seen lines ≡ lines_of body) (at : front ≡ front_count (map seen lines)) (first : front ≤ 1000) (others : length lines - front ≤ 10_000) where
   count : front ≡ front_count (lines_of body)
   count = at ∙ ap front_count is
 
@@ -64,35 +72,48 @@ module _ (body : Text) (rows : List Row) (lines : List BodyLine) (front : ℕ) (
     selections = let e = ap length dropped_at in let n = length-map (drop front lines) seen in let t = length-drop front lines in omega (arith, e, n, t, others);
   }
 
-  has_front : (words : List (Option Word)) → HasFront (rows_of (take 5 (drop 6 rows))) (map seen (take front lines)) words → HasFront data_options (front_of body) words
-  has_front words h = subst (λ (ls : List Numbered). HasFront data_options ls words) front_at (subst (λ (rs : List Named). HasFront rs (map seen (take front lines)) words) (option_rows rows rows_are) h)
+  pub has_front : (words : List (Option Word)) → HasFront (rows_of (take many (drop 6 rows))) (map seen (take front lines)) words → HasFront options (front_of body) words
+  has_front words h = subst (λ (ls : List Numbered). HasFront options ls words) front_at (subst (λ (rs : List Named). HasFront rs (map seen (take front lines)) words) rows_are h)
 
   -- the parameter lines are refused
-  pub post_front : (fault : QueryFault) → RefusesFront (rows_of (take 5 (drop 6 rows))) (map seen (take front lines)) fault → RefusesPost body fault
+  pub post_front : (fault : QueryFault) → RefusesFront (rows_of (take many (drop 6 rows))) (map seen (take front lines)) fault → RefusesBodyBy options Turned body fault
   post_front fault h =
-      front_refuses body fault few (subst (λ (ls : List Numbered). RefusesFront data_options ls fault) front_at (subst (λ (rs : List Named). RefusesFront rs (map seen (take front lines)) fault) (option_rows rows rows_are) h))
+      front_refuses options Turned body fault few (subst (λ (ls : List Numbered). RefusesFront options ls fault) front_at (subst (λ (rs : List Named). RefusesFront rs (map seen (take front lines)) fault) rows_are h))
 
-  module _ (words : List (Option Word)) (read : HasFront (rows_of (take 5 (drop 6 rows))) (map seen (take front lines)) words) where
-    right : IsRightFront body
+  module _ (words : List (Option Word)) (read : HasFront (rows_of (take many (drop 6 rows))) (map seen (take front lines)) words) where
+    pub right : IsRightFront options body
     right = record { few = few; taken = (has_front words read).taken }
 
     -- the lines behind them are
-    pub post_rest : (fault : QueryFault) → RefusesRest (map seen (take (length lines - front) (drop front lines))) fault → RefusesPost body fault
-    post_rest fault h = rest_refuses body fault right (subst (λ (ls : List Numbered). RefusesRest ls fault) rest_at h)
+    pub post_rest : (fault : QueryFault) → RefusesRest (map seen (take (length lines - front) (drop front lines))) fault → RefusesBodyBy options Turned body fault
+    post_rest fault h = rest_refuses options Turned body fault right (subst (λ (ls : List Numbered). RefusesRest ls fault) rest_at h)
 
-    module _ (ss : List Selection) (all : AreSelections (map seen (take (length lines - front) (drop front lines))) ss) (empty : Bool) (test : IsTrue empty ↔ (ss ≡ [])) where
-      selected : AreSelections (rest_of body) ss
+    module _ (ss : List Selection) (all : AreSelections (map seen (take (length lines - front) (drop front lines))) ss) where
+      pub selected : AreSelections (rest_of body) ss
       selected = subst (λ (ls : List Numbered). AreSelections ls ss) rest_at all
 
-      -- no line selects
-      pub post_none : empty ≡ true → HasNoSelection body
-      post_none e = record { right = right; none = no_lines (rest_of body) ss selected (test.0 e) }
+      pub right_body : IsRightBody options body
+      right_body = record { right = right; rest = selections_taken [] (rest_of body) ss selected }
 
-      -- the parts make the query
-      pub post_asked : empty ≡ false → (o : Options) (q : DataQuery) → AreOptionWords words 0 o → IsMade ss o q → IsDataPost body q
-      post_asked e o q options made = record {
-        right = right;
-        selections_are = subst (λ (xs : List Selection). AreSelections (rest_of body) xs) (sym made.selections_are) selected;
-        some = some_lines (rest_of body) ss selected (iff_false test e);
-        options = options_posted (parameters_in (front_of body)) words (has_front words read).held ss o q options made;
-      }
+      module _ (empty : Bool) (test : IsTrue empty ↔ (ss ≡ [])) where
+        -- no line selects
+        pub post_none : ¬ (Turned body) → empty ≡ true → IsBodyFaultBy options Turned body NoLine
+        post_none ordered e = (right_body, ordered, no_lines (rest_of body) ss selected (test.0 e))
+
+        pub some_selected : empty ≡ false → 0 < length (rest_of body)
+        some_selected e = some_lines (rest_of body) ss selected (iff_false test e)
+
+-- the parts make the query
+pub post_asked : (body : Text) (rows : List Row) (lines : List BodyLine) (front : ℕ) (rows_are : rows_of rows ≡ data_rows) (is : map seen lines ≡ lines_of body) (at : front ≡ front_count (map seen lines))
+    (first : front ≤ 1000) (others : length lines - front ≤ 10_000) (words : List (Option Word)) → HasFront (rows_of (take 5 (drop 6 rows))) (map seen (take front lines)) words
+    → (ss : List Selection) → AreSelections (map seen (take (length lines - front) (drop front lines))) ss → (empty : Bool) → IsTrue empty ↔ (ss ≡ []) → empty ≡ false
+    → (o : Options) (q : DataQuery) → AreOptionWords words 0 o → IsMade ss o q → IsDataPost body q
+post_asked body rows lines front rows_are is at first others words read ss all empty test e o q options made =
+    let opts = option_rows rows rows_are in
+    let chosen = selected data_options IsTurned body 5 rows lines front opts is at first others words read ss all in
+    record {
+      right = right data_options IsTurned body 5 rows lines front opts is at first others words read;
+      selections_are = subst (λ (xs : List Selection). AreSelections (rest_of body) xs) (sym made.selections_are) chosen;
+      some = some_selected data_options IsTurned body 5 rows lines front opts is at first others words read ss all empty test e;
+      options = options_posted (parameters_in (front_of body)) words (has_front data_options IsTurned body 5 rows lines front opts is at first others words read).held ss o q options made;
+    }

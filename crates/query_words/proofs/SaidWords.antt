@@ -9,7 +9,8 @@ use Rattle.channel_globs.specs.declared.nslc.Part.TheVariants.{Network, Station,
 use Rattle.channel_globs.specs.PatternText.{IsPatternList}
 use Rattle.dataselect.specs.declared.query.Selection.{Selection}
 use Rattle.dataselect.specs.declared.query.DataQuery.{DataQuery}
-use Rattle.query_words.specs.DataGet.{text_or, said, said_or, IsLimit, IsInTime, AreCodes, AreLimits, AreOptions, IsDataGet, IsBackwards}
+use Rattle.query_words.specs.DataGet.{AreOptions, IsDataGet, IsBackwards}
+use Rattle.query_words.specs.Gets.{text_or, said, said_or, IsLimit, IsInTime, AreCodes, AreLimits}
 use Rattle.query_words.specs.Extracts.{limit_word, nodata_word, quality_word, minimum_word, flag_word, IsListWord, AreOptionWords, AreLists, IsMade, is_backwards}
 use Rattle.query_words.specs.Parameters.{Parameter, pairs_of, parameters_of}
 use Rattle.query_words.specs.Rows.{Text, data_rows}
@@ -27,7 +28,9 @@ limit_of text (word.Nodata nodata) h = let e = h.0 in cc
 limit_of text (word.Quality quality) h = let e = h.0 in cc
 limit_of text (word.Micros micros) h = let e = h.0 in cc
 limit_of text (word.Flag flag) h = let e = h.0 in cc
-limit_of text word.Format h = let e = h.0 in cc
+limit_of text (word.Level level) h = let e = h.0 in cc
+limit_of text (word.Number n) h = absurd h
+limit_of text word.Nothing h = absurd h
 
 pub limit_said : (given : Option Text) (held : Option Word) → IsHeld kind.Time given held → IsLimit given (limit_word held)
 limit_said None held h = ap limit_word h
@@ -42,7 +45,9 @@ list_of part text (word.Nodata nodata) patterns h k = let e = h.0 in cc
 list_of part text (word.Quality quality) patterns h k = let e = h.0 in cc
 list_of part text (word.Micros micros) patterns h k = let e = h.0 in cc
 list_of part text (word.Flag flag) patterns h k = let e = h.0 in cc
-list_of part text word.Format patterns h k = let e = h.0 in cc
+list_of part text (word.Level level) patterns h k = let e = h.0 in cc
+list_of part text (word.Number n) patterns h k = absurd h
+list_of part text word.Nothing patterns h k = absurd h
 
 pub list_said : (part : Part) (given : Option Text) (held : Option Word) (list : List Text) → IsHeld (kind.Patterns part) given held → IsListWord part held list
     → IsPatternList part (text_or (codes "*") given) list
@@ -56,7 +61,9 @@ nodata_text text (word.Time moment) h = let e = h.0 in cc
 nodata_text text (word.Quality quality) h = let e = h.0 in cc
 nodata_text text (word.Micros micros) h = let e = h.0 in cc
 nodata_text text (word.Flag flag) h = let e = h.0 in cc
-nodata_text text word.Format h = let e = h.0 in cc
+nodata_text text (word.Level level) h = let e = h.0 in cc
+nodata_text text (word.Number n) h = absurd h
+nodata_text text word.Nothing h = absurd h
 
 pub nodata_said : (given : Option Text) (held : Option Word) → IsHeld kind.Nodata given held → nodata_of (text_or (codes "204") given) ≡ Some (nodata_word held)
 nodata_said None held h = ap (λ (o : Option Word). Some (nodata_word o)) (sym h)
@@ -69,7 +76,9 @@ quality_text text (word.Time moment) h = let e = h.0 in cc
 quality_text text (word.Nodata nodata) h = let e = h.0 in cc
 quality_text text (word.Micros micros) h = let e = h.0 in cc
 quality_text text (word.Flag flag) h = let e = h.0 in cc
-quality_text text word.Format h = let e = h.0 in cc
+quality_text text (word.Level level) h = let e = h.0 in cc
+quality_text text (word.Number n) h = absurd h
+quality_text text word.Nothing h = absurd h
 
 pub quality_said : (given : Option Text) (held : Option Word) → IsHeld kind.Quality given held → quality_of (text_or (codes "B") given) ≡ Some (quality_word held)
 quality_said None held h = ap (λ (o : Option Word). Some (quality_word o)) (sym h)
@@ -95,7 +104,9 @@ minimum_text text (word.Time moment) h = let e = h.0 in cc
 minimum_text text (word.Nodata nodata) h = let e = h.0 in cc
 minimum_text text (word.Quality quality) h = let e = h.0 in cc
 minimum_text text (word.Flag flag) h = let e = h.0 in cc
-minimum_text text word.Format h = let e = h.0 in cc
+minimum_text text (word.Level level) h = let e = h.0 in cc
+minimum_text text (word.Number n) h = absurd h
+minimum_text text word.Nothing h = absurd h
 
 pub minimum_said : (given : Option Text) (held : Option Word) → IsHeld kind.Seconds given held → IsMinimum (text_or (codes "0") given) (minimum_word held)
 minimum_said None held h = subst (λ (o : Option Word). IsMinimum (codes "0") (minimum_word o)) (sym h) no_minimum
@@ -108,7 +119,9 @@ flag_text text (word.Time moment) h = let e = h.0 in cc
 flag_text text (word.Nodata nodata) h = let e = h.0 in cc
 flag_text text (word.Quality quality) h = let e = h.0 in cc
 flag_text text (word.Micros micros) h = let e = h.0 in cc
-flag_text text word.Format h = let e = h.0 in cc
+flag_text text (word.Level level) h = let e = h.0 in cc
+flag_text text (word.Number n) h = absurd h
+flag_text text word.Nothing h = absurd h
 
 pub flag_said : (given : Option Text) (held : Option Word) → IsHeld kind.Flag given held → flag_of (text_or (codes "false") given) ≡ Some (flag_word held)
 flag_said None held h = ap (λ (o : Option Word). Some (flag_word o)) (sym h)
@@ -127,10 +140,10 @@ backwards (Some start) None h = cc
 backwards None end h = cc
 
 module _ (ps : List Parameter) (words : List (Option Word)) (held : AreHeld data_rows ps words) where
-  pub limits_said : AreLimits ps (limit_word (get_or words 0 None)) (limit_word (get_or words 1 None))
+  pub limits_said : AreLimits data_rows ps (limit_word (get_or words 0 None)) (limit_word (get_or words 1 None))
   limits_said = record { start_is = limit_said _ _ (held.each 0 (omega arith)); end_is = limit_said _ _ (held.each 1 (omega arith)) }
 
-  pub codes_said : (s : Selection) → AreLists words 2 s → AreCodes ps s
+  pub codes_said : (s : Selection) → AreLists words 2 s → AreCodes data_rows ps s
   codes_said s h = record {
     network_is = list_said Network _ _ _ (held.each 2 (omega arith)) h.network_is;
     station_is = list_said Station _ _ _ (held.each 3 (omega arith)) h.station_is;
@@ -151,7 +164,7 @@ few_enough b n h e = elim (cases_lt 1000 n) [ inl more ↦ absurd (iff_false h e
 
 module _ (query : Text) (words : List (Option Word)) (few : length (pairs_of query) ≤ 1000) (read : HasRead data_rows (parameters_of query) (parameters_of query) [] words)
     (start end : Option Moment) (start_is : start ≡ limit_word (get_or words 0 None)) (end_is : end ≡ limit_word (get_or words 1 None)) where
-  limits : AreLimits (parameters_of query) start end
+  limits : AreLimits data_rows (parameters_of query) start end
   limits =
       let told = limits_said (parameters_of query) words read.held in
       record { start_is = subst (λ (m : Option Moment). IsLimit (said data_rows (codes "starttime") (parameters_of query)) m) (sym start_is) told.start_is; end_is = subst (λ (m : Option Moment). IsLimit (said data_rows (codes "endtime") (parameters_of query)) m) (sym end_is) told.end_is }

@@ -4,14 +4,14 @@ use Rattle.std.specs.Borrow.{Bor}
 use Rattle.exact_time.specs.declared.moment.Moment.{Moment}
 use Rattle.dataselect.specs.declared.query.Selection.{Selection}
 use Rattle.query_words.specs.Bodies.{Numbered, Fields, limit_text, AreFields, IsSelection, TakesSelection, AreSelections}
-use Rattle.query_words.specs.DataGet.{IsLimit}
+use Rattle.query_words.specs.Gets.{IsLimit}
 use Rattle.query_words.specs.Extracts.{is_backwards}
 use Rattle.query_words.specs.FirstRefusals.{AreTaken}
 use Rattle.query_words.specs.Rows.{Text}
 use Rattle.query_words.specs.Selecting.{HasNone, IsWindowPair, line_fault, RefusesRest}
 use Rattle.query_words.specs.declared.words.WordFault.{WordFault}
 use Rattle.query_words.specs.declared.words.WordFault.TheVariants as fault
-use Rattle.query_words.proofs.OneDataGet.{one_limit, not_backwards}
+use Rattle.query_words.proofs.OneGet.{one_limit, not_backwards}
 use Rattle.query_words.proofs.SaidWords.{backwards}
 
 abbrev Slice : Type 0

@@ -1,5 +1,5 @@
 -- Every text is a value of a kind, or none is; so every parameter is taken or refused.
-use Rattle.std.proofs.Common.{◌≡◌, ◌⊎◌, inl, inr, ℕ, ℤ, pos, negsuc, List, Option, Some, None, Result, Ok, Err, refl, codes, arith}
+use Rattle.std.proofs.Common.{◌≡◌, ◌⊎◌, inl, inr, ℕ, ℤ, pos, negsuc, Bool, true, false, List, Option, Some, None, Result, Ok, Err, refl, ap, codes, arith, unsigned_abs}
 use Rattle.std.specs.Str.{bytes_eq}
 use Rattle.std.proofs.lemmas.Bool.{cases_Bool, cases_lt, both_ways}
 use Rattle.std.proofs.lemmas.Int.{ints}
@@ -17,9 +17,9 @@ use Rattle.channel_globs.specs.declared.patterns.GlobFault.{GlobFault}
 use Rattle.channel_globs.proofs.OneList.{list_or_fault}
 use Rattle.query_words.specs.Parameters.{Parameter, given, TakesParameter, RefusesParameter}
 use Rattle.query_words.specs.Rows.{Text, Named, row_of, kind_of}
-use Rattle.query_words.specs.Values.{nodata_of, quality_of, flag_of, is_garbled, IsMinimum, CanRead, Reads}
+use Rattle.query_words.specs.Values.{nodata_of, quality_of, flag_of, level_of, is_garbled, IsMinimum, IsDegrees, most_latitude, most_longitude, CanRead, Reads, IsLeftOut}
 use Rattle.query_words.specs.declared.fault.QueryFault.{QueryFault}
-use Rattle.query_words.specs.declared.fault.QueryFault.TheVariants.{Unknown, Repeated, Value}
+use Rattle.query_words.specs.declared.fault.QueryFault.TheVariants.{Unknown, Repeated, OutOfScope, Value}
 use Rattle.query_words.specs.declared.rows.Kind.{Kind}
 use Rattle.query_words.specs.declared.rows.Kind.TheVariants as kind
 
@@ -79,6 +79,28 @@ pair_found : {V : Type 0} (P : V → Type 0) → Found P → ((v : V) × P v) �
 pair_found P (inl found) = inl found
 pair_found P (inr none) = inr (λ h. none h.0 h.1)
 
+same_flag : (o : Option Bool) (b : Bool) → (o ≡ Some b) ⊎ (¬ (o ≡ Some b))
+same_flag None b = inr (λ e. cc)
+same_flag (Some true) true = inl refl
+same_flag (Some true) false = inr (λ e. cc)
+same_flag (Some false) true = inr (λ e. cc)
+same_flag (Some false) false = inl refl
+
+degrees_by : (most : ℕ) (text : Text) (answer : Result ℤ TimeFault) → IsOnly (IsDecimal text) (RefusesDecimal text) answer → Found (λ (n : ℤ). IsDegrees most text n)
+degrees_by most text (Ok n) h =
+    elim (cases_lt most (unsigned_abs n)) [
+      | inr small ↦ inl (n, record { decimal = h.right; within = small })
+      | inl great ↦ inr (λ m k.
+          let e : Ok m ≡ Ok n = h.only (Ok m) k.decimal in
+          let same : m ≡ n = cc in
+          let size : unsigned_abs m ≡ unsigned_abs n = ap unsigned_abs same in
+          omega (arith, size, k.within, great))
+    ]
+degrees_by most text (Err fault) h = inr (λ m k. let e : Ok m ≡ Err fault = h.only (Ok m) k.decimal in cc)
+
+degrees_found : (most : ℕ) (text : Text) → Found (λ (n : ℤ). IsDegrees most text n)
+degrees_found most text = let a = number_or_fault text in degrees_by most text a.0 a.1
+
 -- a text is a value of a kind, or it isn't
 can_or_cannot : (k : Kind) (text : Text) → CanRead k text ⊎ (¬ (CanRead k text))
 can_or_cannot kind.Time text = pair_found (λ (micros : ℤ). IsMoment text micros) (moment_found text)
@@ -88,6 +110,13 @@ can_or_cannot kind.Quality text = pair_found (λ quality. quality_of text ≡ So
 can_or_cannot kind.Seconds text = pair_found (λ (micros : ℕ). IsMinimum text micros) (minimum_found text)
 can_or_cannot kind.Flag text = pair_found (λ flag. flag_of text ≡ Some flag) (option_found (flag_of text))
 can_or_cannot kind.Format text = same_text text (codes "miniseed")
+can_or_cannot kind.Latitude text = pair_found (λ (n : ℤ). IsDegrees most_latitude text n) (degrees_found most_latitude text)
+can_or_cannot kind.Longitude text = pair_found (λ (n : ℤ). IsDegrees most_longitude text n) (degrees_found most_longitude text)
+can_or_cannot kind.Level text = pair_found (λ level. level_of text ≡ Some level) (option_found (level_of text))
+can_or_cannot kind.TextForm text = same_text text (codes "text")
+can_or_cannot kind.Always text = same_flag (flag_of text) true
+can_or_cannot kind.Never text = same_flag (flag_of text) false
+can_or_cannot kind.LeftOut text = inr (λ h. h)
 
 reads_or_not : (k : Kind) (text : Text) → Reads k text ⊎ (¬ (Reads k text))
 reads_or_not k text =
@@ -95,6 +124,23 @@ reads_or_not k text =
       | inl garbled ↦ inr (λ h. both_ways (is_garbled text) h.plain garbled)
       | inr plain ↦ elim (can_or_cannot k text) [ inl can ↦ inl (record { plain = plain; can = can }) | inr cannot ↦ inr (λ h. cannot h.can) ]
     ]
+
+-- a value is left out, or it isn't
+left_out_or_not : (k : Kind) (text : Text) → IsLeftOut k text ⊎ (¬ (IsLeftOut k text))
+left_out_or_not kind.Level text = same_text text (codes "response")
+left_out_or_not kind.TextForm text = same_text text (codes "xml")
+left_out_or_not kind.Always text = same_flag (flag_of text) false
+left_out_or_not kind.Never text = same_flag (flag_of text) true
+left_out_or_not kind.LeftOut text = inl tt
+left_out_or_not kind.Time text = inr (λ h. h)
+left_out_or_not (kind.Patterns part) text = inr (λ h. h)
+left_out_or_not kind.Nodata text = inr (λ h. h)
+left_out_or_not kind.Quality text = inr (λ h. h)
+left_out_or_not kind.Seconds text = inr (λ h. h)
+left_out_or_not kind.Flag text = inr (λ h. h)
+left_out_or_not kind.Format text = inr (λ h. h)
+left_out_or_not kind.Latitude text = inr (λ h. h)
+left_out_or_not kind.Longitude text = inr (λ h. h)
 
 -- a parameter is taken behind those before it, or refused
 pub parameter_found : (rows : List Named) (before : List Parameter) (p : Parameter) → TakesParameter rows before p ⊎ ((fault : QueryFault) × RefusesParameter rows before p fault)
@@ -105,7 +151,10 @@ parameter_found rows before p =
         | inl earlier ↦ inr (Repeated p.number, (refl, record { row = row.0; names = row.1; earlier = earlier.0; taken = earlier.1 }))
         | inr free ↦ elim (reads_or_not (kind_of rows row.0) p.value) [
           | inl reads ↦ inl (record { row = row.0; is_new = record { names = row.1; free = free }; reads = reads })
-          | inr bad ↦ inr (Value p.number, (refl, record { row = row.0; is_new = record { names = row.1; free = free }; inside = λ out. out; bad = bad }))
+          | inr bad ↦ elim (left_out_or_not (kind_of rows row.0) p.value) [
+            | inl out ↦ inr (OutOfScope p.number, (refl, record { row = row.0; is_new = record { names = row.1; free = free }; out = out }))
+            | inr inside ↦ inr (Value p.number, (refl, record { row = row.0; is_new = record { names = row.1; free = free }; inside = inside; bad = bad }))
+          ]
         ]
       ]
     ]

@@ -8,7 +8,7 @@ use Rattle.exact_time.specs.declared.moment.Moment.{Moment}
 use Rattle.channel_globs.specs.PatternText.{without_spaces, space, IsPatternList}
 use Rattle.channel_globs.specs.declared.nslc.Part.TheVariants.{Network, Station, Location, Channel}
 use Rattle.dataselect.specs.declared.query.Selection.{Selection}
-use Rattle.query_words.specs.DataGet.{IsLimit, IsInTime}
+use Rattle.query_words.specs.Gets.{IsLimit, IsInTime}
 use Rattle.query_words.specs.Parameters.{Parameter, parameter, TakesParameter, RefusesParameter}
 use Rattle.query_words.specs.Rows.{Text, Named}
 use Rattle.query_words.specs.declared.fault.QueryFault.{QueryFault}

@@ -11,6 +11,12 @@ use Rattle.dataselect.specs.declared.query.Selection.{Selection}
 use Rattle.dataselect.specs.declared.query.DataQuery.{DataQuery}
 use Rattle.query_words.specs.Rows.{Text}
 use Rattle.query_words.specs.declared.asked.Options.{Options}
+use Rattle.query_words.specs.declared.places.StationOptions.{StationOptions}
+use Rattle.query_words.specs.declared.station.Area.{Area}
+use Rattle.query_words.specs.declared.station.Level.{Level}
+use Rattle.query_words.specs.declared.station.Level.TheVariants as level
+use Rattle.query_words.specs.declared.station.StationQuery.{StationQuery}
+use Rattle.exact_time.specs.declared.decimal.Decimal.{Decimal}
 use Rattle.query_words.specs.declared.words.Word.{Word}
 use Rattle.query_words.specs.declared.words.Word.TheVariants as word
 
@@ -67,3 +73,40 @@ abbrev pub is_backwards : Option Moment → Option Moment → Bool
 is_backwards (Some start) (Some end) = int_lt end.micros start.micros
 is_backwards (Some start) None = false
 is_backwards None end = false
+
+-- the number of a word, if it is one
+abbrev pub number_word : Option Word → Option Decimal
+number_word (Some (word.Number number)) = Some number
+number_word _ = None
+
+abbrev pub level_word : Option Word → Level
+level_word (Some (word.Level level)) = level
+level_word _ = level.Station
+
+-- the place of four words from that place on
+pub record AreAreaWords (words : List (Option Word)) (first : ℕ) (area : Area) : Type 0 where
+  pub south_is : area.latitude.least ≡ number_word (get_or words first None)
+  pub north_is : area.latitude.most ≡ number_word (get_or words (first + 1) None)
+  pub west_is : area.longitude.least ≡ number_word (get_or words (first + 2) None)
+  pub east_is : area.longitude.most ≡ number_word (get_or words (first + 3) None)
+
+-- the options of station of the words from that place on
+pub record AreStationWords (words : List (Option Word)) (first : ℕ) (o : StationOptions) : Type 0 where
+  pub nodata_is : o.nodata ≡ nodata_word (get_or words first None)
+  pub start_before_is : o.start_before ≡ limit_word (get_or words (first + 1) None)
+  pub start_after_is : o.start_after ≡ limit_word (get_or words (first + 2) None)
+  pub end_before_is : o.end_before ≡ limit_word (get_or words (first + 3) None)
+  pub end_after_is : o.end_after ≡ limit_word (get_or words (first + 4) None)
+  pub area_is : AreAreaWords words (first + 5) o.area
+  pub level_is : o.level ≡ level_word (get_or words (first + 9) None)
+
+-- the query of station of these selections and options
+pub record IsStationMade (selections : List Selection) (o : StationOptions) (q : StationQuery) : Type 0 where
+  pub selections_are : q.selections ≡ selections
+  pub nodata_is : q.nodata ≡ o.nodata
+  pub start_before_is : q.start_before ≡ o.start_before
+  pub start_after_is : q.start_after ≡ o.start_after
+  pub end_before_is : q.end_before ≡ o.end_before
+  pub end_after_is : q.end_after ≡ o.end_after
+  pub area_is : q.area ≡ o.area
+  pub level_is : q.level ≡ o.level

@@ -4,8 +4,13 @@ pub mod DataPost
 pub mod Extracts
 pub mod FirstRefusals
 pub mod Fronts
+pub mod Gets
 pub mod Parameters
+pub mod Places
+pub mod Posts
 pub mod Rows
 pub mod Selecting
+pub mod StationGet
+pub mod StationPost
 pub mod Values
 pub mod Words

@@ -1,11 +1,12 @@
--- The names that a method has (FDSN Web Service Specifications 1.2, dataselect, query parameters).
+-- The names that a method has (FDSN Web Service Specifications 1.2, dataselect and station, query
+-- parameters).
 use Rattle.std.specs.Prelude.{ℕ, List, [], ◌∷◌, Bool, ◌||◌, Option, map, position, get_or, codes}
 use Rattle.std.specs.Char.{to_ascii_lowercase}
 use Rattle.std.specs.Str.{bytes_eq}
 use Rattle.channel_globs.specs.declared.nslc.Part.TheVariants.{Network, Station, Location, Channel}
 use Rattle.query_words.specs.declared.rows.Row.{Row}
 use Rattle.query_words.specs.declared.rows.Kind.{Kind}
-use Rattle.query_words.specs.declared.rows.Kind.TheVariants.{Time, Patterns, Nodata, Quality, Seconds, Flag, Format}
+use Rattle.query_words.specs.declared.rows.Kind.TheVariants.{Time, Patterns, Nodata, Quality, Seconds, Flag, Format, Latitude, Longitude, Level, TextForm, Always, Never, LeftOut}
 
 abbrev pub Text : Type 0
 Text = List ℕ
@@ -38,16 +39,48 @@ data_options =
     ∷ alone (codes "format") Format
     ∷ []
 
--- the names of dataselect
-abbrev pub data_rows : List Named
-data_rows =
+-- the times and the codes, which a query string has and a body's parameters don't
+abbrev pub windows_before : List Named → List Named
+windows_before options =
     with_alias (codes "starttime") (codes "start") Time
     ∷ with_alias (codes "endtime") (codes "end") Time
     ∷ with_alias (codes "network") (codes "net") (Patterns Network)
     ∷ with_alias (codes "station") (codes "sta") (Patterns Station)
     ∷ with_alias (codes "location") (codes "loc") (Patterns Location)
     ∷ with_alias (codes "channel") (codes "cha") (Patterns Channel)
-    ∷ data_options
+    ∷ options
+
+-- the names of dataselect
+abbrev pub data_rows : List Named
+data_rows = windows_before data_options
+
+-- the options of station, which a body may have too; this data centre leaves out what comes last
+abbrev pub station_options : List Named
+station_options =
+    alone (codes "nodata") Nodata
+    ∷ alone (codes "startbefore") Time
+    ∷ alone (codes "startafter") Time
+    ∷ alone (codes "endbefore") Time
+    ∷ alone (codes "endafter") Time
+    ∷ with_alias (codes "minlatitude") (codes "minlat") Latitude
+    ∷ with_alias (codes "maxlatitude") (codes "maxlat") Latitude
+    ∷ with_alias (codes "minlongitude") (codes "minlon") Longitude
+    ∷ with_alias (codes "maxlongitude") (codes "maxlon") Longitude
+    ∷ alone (codes "level") Level
+    ∷ alone (codes "format") TextForm
+    ∷ alone (codes "includerestricted") Always
+    ∷ alone (codes "includeavailability") Never
+    ∷ alone (codes "matchtimeseries") Never
+    ∷ with_alias (codes "latitude") (codes "lat") LeftOut
+    ∷ with_alias (codes "longitude") (codes "lon") LeftOut
+    ∷ alone (codes "minradius") LeftOut
+    ∷ alone (codes "maxradius") LeftOut
+    ∷ alone (codes "updatedafter") LeftOut
+    ∷ []
+
+-- the names of station
+abbrev pub station_rows : List Named
+station_rows = windows_before station_options
 
 -- two texts are one but for the case of ASCII letters
 abbrev pub same_name : Text → Text → Bool

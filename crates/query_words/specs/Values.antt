@@ -1,5 +1,6 @@
--- The values of single parameters (FDSN Web Service Specifications 1.2, dataselect, query parameters).
-use Rattle.std.specs.Prelude.{◌≡◌, ℕ, ℤ, ◌≤◌, ◌==◌, ◌||◌, ◌&&◌, nat_le, pos, Bool, true, false, List, [], ◌∷◌, length, Option, Some, None, if◌then◌else◌, codes}
+-- The values of single parameters (FDSN Web Service Specifications 1.2, dataselect and station, query
+-- parameters).
+use Rattle.std.specs.Prelude.{◌≡◌, ℕ, ℤ, ◌≤◌, ◌==◌, ◌||◌, ◌&&◌, nat_le, pos, Bool, true, false, List, [], ◌∷◌, length, Option, Some, None, if◌then◌else◌, codes, unsigned_abs, ⊤}
 use Rattle.std.specs.Char.{is_ascii_digit}
 use Rattle.std.specs.Str.{bytes_eq, chars}
 use Rattle.std.specs.Str.Parse.{digits_value}
@@ -12,6 +13,8 @@ use Rattle.mseed_header.specs.declared.quality.Quality.TheVariants.{D, M, Q, R}
 use Rattle.dataselect.specs.declared.query.Nodata.{Nodata}
 use Rattle.dataselect.specs.declared.query.Nodata.TheVariants.{Quiet, NotFound}
 use Rattle.query_words.specs.Rows.{Text, same_name}
+use Rattle.query_words.specs.declared.station.Level.{Level}
+use Rattle.query_words.specs.declared.station.Level.TheVariants as level
 use Rattle.query_words.specs.declared.rows.Kind.{Kind}
 use Rattle.query_words.specs.declared.rows.Kind.TheVariants as kind
 
@@ -51,6 +54,25 @@ pub record IsMinimum (text : Text) (micros : ℕ) : Type 0 where
   pub decimal : IsDecimal text (pos micros)
   pub small : micros ≤ 10_000_000_000_000_000
 
+-- what an answer has a line for; `response` is left out
+abbrev pub level_of : Text → Option Level
+level_of text =
+    if bytes_eq text (codes "station") then Some level.Station
+    else (if bytes_eq text (codes "network") then Some level.Network
+    else (if bytes_eq text (codes "channel") then Some level.Channel else None))
+
+-- a decimal of degrees, counted in millionths, from -most to most
+pub record IsDegrees (most : ℕ) (text : Text) (millionths : ℤ) : Type 0 where
+  pub decimal : IsDecimal text millionths
+  pub within : unsigned_abs millionths ≤ most
+
+-- how many millionths of a degree a place has at most
+abbrev pub most_latitude : ℕ
+most_latitude = 90_000_000
+
+abbrev pub most_longitude : ℕ
+most_longitude = 180_000_000
+
 -- the text is a value of that kind
 abbrev pub CanRead : Kind → Text → Type 0
 CanRead kind.Time text = (micros : ℤ) × IsMoment text micros
@@ -60,6 +82,13 @@ CanRead kind.Quality text = (quality : Option Quality) × (quality_of text ≡ S
 CanRead kind.Seconds text = (micros : ℕ) × IsMinimum text micros
 CanRead kind.Flag text = (flag : Bool) × (flag_of text ≡ Some flag)
 CanRead kind.Format text = text ≡ codes "miniseed"
+CanRead kind.Latitude text = (millionths : ℤ) × IsDegrees most_latitude text millionths
+CanRead kind.Longitude text = (millionths : ℤ) × IsDegrees most_longitude text millionths
+CanRead kind.Level text = (level : Level) × (level_of text ≡ Some level)
+CanRead kind.TextForm text = text ≡ codes "text"
+CanRead kind.Always text = flag_of text ≡ Some true
+CanRead kind.Never text = flag_of text ≡ Some false
+CanRead kind.LeftOut text = ⊥
 
 -- the text has the character that stands for what isn't UTF-8, U+FFFD
 abbrev pub is_garbled : Text → Bool
@@ -70,6 +99,11 @@ pub record Reads (kind : Kind) (text : Text) : Type 0 where
   pub plain : is_garbled text ≡ false
   pub can : CanRead kind text
 
--- the text is a value that this data centre leaves out; of the kinds of dataselect none is
+-- the text is a value that this data centre leaves out, or stands under a name that it leaves out
 abbrev pub IsLeftOut : Kind → Text → Type 0
+IsLeftOut kind.Level text = text ≡ codes "response"
+IsLeftOut kind.TextForm text = text ≡ codes "xml"
+IsLeftOut kind.Always text = flag_of text ≡ Some false
+IsLeftOut kind.Never text = flag_of text ≡ Some true
+IsLeftOut kind.LeftOut text = ⊤
 IsLeftOut _ text = ⊥

@@ -1,5 +1,5 @@
 -- A value that was read.
-use Rattle.std.specs.Prelude.{◌≡◌, ℕ, ◌<◌, true, false, List, [], ◌++◌, length, get_or, set, codes, Option, Some, None, ⊤}
+use Rattle.std.specs.Prelude.{◌≡◌, ℕ, ℤ, ◌<◌, true, false, List, [], ◌++◌, length, get_or, set, codes, Option, Some, None, ⊤}
 use Rattle.std.specs.Option.{is_some}
 use Rattle.exact_time.specs.MomentText.{IsMoment}
 use Rattle.channel_globs.specs.PatternText.{IsPatternList}
@@ -9,7 +9,7 @@ use Rattle.channel_globs.specs.declared.patterns.GlobFault.TheVariants as glob
 use Rattle.query_words.specs.FirstRefusals.{AreTaken, IsFirstRefusal}
 use Rattle.query_words.specs.Parameters.{Parameter, given, TakesParameter, RefusesParameter}
 use Rattle.query_words.specs.Rows.{Text, Named, row_of, kind_of}
-use Rattle.query_words.specs.Values.{nodata_of, quality_of, flag_of, IsMinimum, is_garbled, CanRead, Reads, IsLeftOut}
+use Rattle.query_words.specs.Values.{nodata_of, quality_of, flag_of, level_of, IsMinimum, IsDegrees, most_latitude, most_longitude, is_garbled, CanRead, Reads, IsLeftOut}
 use Rattle.query_words.specs.declared.fault.QueryFault.{QueryFault}
 use Rattle.query_words.specs.declared.fault.QueryFault.TheVariants as query
 use Rattle.query_words.specs.declared.rows.Kind.{Kind}
@@ -19,6 +19,20 @@ use Rattle.query_words.specs.declared.words.Word.TheVariants as word
 use Rattle.query_words.specs.declared.words.WordFault.{WordFault}
 use Rattle.query_words.specs.declared.words.WordFault.TheVariants as fault
 
+-- the text is the value of a kind that takes no other
+abbrev pub SaysNothing : Kind → Text → Type 0
+SaysNothing kind.Format text = text ≡ codes "miniseed"
+SaysNothing kind.TextForm text = text ≡ codes "text"
+SaysNothing kind.Always text = flag_of text ≡ Some true
+SaysNothing kind.Never text = flag_of text ≡ Some false
+SaysNothing _ text = ⊥
+
+-- the text is this number of degrees
+abbrev pub IsDegreesOf : Kind → Text → ℤ → Type 0
+IsDegreesOf kind.Latitude text millionths = IsDegrees most_latitude text millionths
+IsDegreesOf kind.Longitude text millionths = IsDegrees most_longitude text millionths
+IsDegreesOf _ text millionths = ⊥
+
 -- the text is this value of that kind
 abbrev pub IsWord : Kind → Text → Word → Type 0
 IsWord k text (word.Time moment) = (k ≡ kind.Time) × IsMoment text moment.micros
@@ -27,7 +41,9 @@ IsWord k text (word.Nodata nodata) = (k ≡ kind.Nodata) × (nodata_of text ≡ 
 IsWord k text (word.Quality quality) = (k ≡ kind.Quality) × (quality_of text ≡ Some quality)
 IsWord k text (word.Micros micros) = (k ≡ kind.Seconds) × IsMinimum text micros
 IsWord k text (word.Flag flag) = (k ≡ kind.Flag) × (flag_of text ≡ Some flag)
-IsWord k text word.Format = (k ≡ kind.Format) × (text ≡ codes "miniseed")
+IsWord k text (word.Level level) = (k ≡ kind.Level) × (level_of text ≡ Some level)
+IsWord k text (word.Number number) = IsDegreesOf k text number.millionths
+IsWord k text word.Nothing = SaysNothing k text
 
 -- the text is this value of that kind, in UTF-8
 pub record ReadsWord (k : Kind) (text : Text) (w : Word) : Type 0 where
@@ -36,10 +52,25 @@ pub record ReadsWord (k : Kind) (text : Text) (w : Word) : Type 0 where
 
 -- the kinds of options
 abbrev pub IsOption : Kind → Type 0
-IsOption kind.Time = ⊥
-IsOption (kind.Patterns part) = ⊥
-IsOption kind.Format = ⊥
-IsOption _ = ⊤
+IsOption kind.Nodata = ⊤
+IsOption kind.Quality = ⊤
+IsOption kind.Seconds = ⊤
+IsOption kind.Flag = ⊤
+IsOption _ = ⊥
+
+-- the kinds of which one value is taken alone
+abbrev pub IsFixed : Kind → Type 0
+IsFixed kind.Format = ⊤
+IsFixed kind.TextForm = ⊤
+IsFixed kind.Always = ⊤
+IsFixed kind.Never = ⊤
+IsFixed _ = ⊥
+
+-- the kinds of places
+abbrev pub IsPlace : Kind → Type 0
+IsPlace kind.Latitude = ⊤
+IsPlace kind.Longitude = ⊤
+IsPlace _ = ⊥
 
 -- why bytes are no value; want of memory is free
 abbrev pub CannotRead : Kind → Text → WordFault → Type 0

@@ -30,7 +30,8 @@ pub fn limit_in(word: &Option<Word>) -> Option<Moment>
     }
 }
 
-fn nodata_in(word: &Option<Word>) -> Nodata
+/// What a word says of an answer without data.
+pub fn nodata_in(word: &Option<Word>) -> Nodata
     ensures { result ≡ nodata_word word.now }
 {
     match word {

@@ -27,7 +27,8 @@ fn parameter_count(query: &[u8]) -> usize
     count
 }
 
-fn has_too_many(query: &[u8]) -> bool
+/// Whether a query string has more than 1000 parameters.
+pub fn has_too_many(query: &[u8]) -> bool
     ensures { IsTrue result ↔ (1000 < length (pairs_of query.now)) }
 {
     parameter_count(query) > MOST_PARAMETERS

@@ -6,42 +6,13 @@ ghost use Rattle.channel_globs.specs.PatternText.{drop_spaces, drop_end_spaces, 
 ghost use Rattle.query_words.specs.Bodies.{is_gap, is_blank, has_equals, seen, lines_of, front_count};
 
 use std::alloc::{AllocError, Global};
+use text_lines::cut_line;
 
 /// A line of a body, and its number from 1.
 #[derive(Clone, Copy)]
 pub struct BodyLine<'a> {
     pub number: u64,
     pub text: &'a [u8],
-}
-
-// The line without one carriage return at its end.
-fn without_return(line: &[u8]) -> &[u8]
-    ensures { result.now ≡ strip_carriage_return line.now }
-{
-    match line {
-        [rest @ .., b'\r'] => rest,
-        _ => line,
-    }
-}
-
-// The place of the first line feed.
-fn line_feed(text: &[u8]) -> Option<usize>
-    ensures value { result ≡ position (λ byte. byte == 10) text.now }
-    ensures within { IfSome result (λ i. i < length text.now) }
-{
-    text.iter().position(|byte| *byte == b'\n')
-}
-
-// The first line of a text, and what is behind it.
-fn cut_line(text: &[u8]) -> (&[u8], &[u8])
-    requires { 0 < length text.now }
-    ensures cut { lines text.now ≡ result.0.now ∷ lines result.1.now }
-    ensures shorter { length result.1.now < length text.now }
-{
-    let Some(end) = line_feed(text) else {
-        return (text, &[]);
-    };
-    (without_return(&text[..end]), &text[end + 1..])
 }
 
 /// Whether a byte is a space or a tab.

@@ -12,11 +12,11 @@ use crate::selections::read_selections;
 use dataselect::DataQuery;
 use std::alloc::Global;
 
-// How many parameter lines a body may have.
-const MOST_PARAMETERS: usize = 1000;
+/// How many parameter lines a body may have.
+pub const MOST_PARAMETERS: usize = 1000;
 
-// How many selection lines a body may have.
-const MOST_SELECTIONS: usize = 10_000;
+/// How many selection lines a body may have.
+pub const MOST_SELECTIONS: usize = 10_000;
 
 /// The query that a body spells (FDSN Web Service Specifications 1.2, dataselect, POST). The first
 /// wrong line decides; that no line selects comes last.

@@ -1,6 +1,6 @@
 //! The names that a method has.
 ghost use Rattle.std.specs.Prelude.{◌≡◌, position};
-ghost use Rattle.query_words.specs.Rows.{is_called, row_of, rows_of, named, data_rows};
+ghost use Rattle.query_words.specs.Rows.{is_called, row_of, rows_of, named, with_alias, alone, data_rows, station_rows};
 
 use channel_globs::Part;
 
@@ -19,8 +19,22 @@ pub enum Kind {
     Seconds,
     /// True or false.
     Flag,
-    /// The form of the answer.
+    /// The form of records: `miniseed`.
     Format,
+    /// Degrees, -90 to 90.
+    Latitude,
+    /// Degrees, -180 to 180.
+    Longitude,
+    /// What an answer has a line for; `response` is left out.
+    Level,
+    /// The form of other answers: `text`; `xml` is left out.
+    TextForm,
+    /// True; false is left out.
+    Always,
+    /// False; true is left out.
+    Never,
+    /// Nothing: the name is left out.
+    LeftOut,
 }
 
 /// A name that a method has; its alias is the name itself where it has none.
@@ -42,66 +56,69 @@ pub const CODES: usize = 2;
 /// Where they have the first option, which a body may have too.
 pub const OPTIONS: usize = 6;
 
+impl Row {
+    fn with_alias(name: &'static str, alias: &'static str, kind: Kind) -> Row
+        ensures { named result ≡ with_alias name.now alias.now kind }
+    {
+        Row { name, alias, kind }
+    }
+
+    fn new(name: &'static str, kind: Kind) -> Row
+        ensures { named result ≡ alone name.now kind }
+    {
+        Row::with_alias(name, name, kind)
+    }
+}
+
 /// The names of dataselect: the times, the codes, and behind them the options.
 pub fn data_rows() -> [Row; 11]
     ensures { rows_of result ≡ data_rows }
 {
     [
-        Row {
-            name: "starttime",
-            alias: "start",
-            kind: Kind::Time,
-        },
-        Row {
-            name: "endtime",
-            alias: "end",
-            kind: Kind::Time,
-        },
-        Row {
-            name: "network",
-            alias: "net",
-            kind: Kind::Patterns(Part::Network),
-        },
-        Row {
-            name: "station",
-            alias: "sta",
-            kind: Kind::Patterns(Part::Station),
-        },
-        Row {
-            name: "location",
-            alias: "loc",
-            kind: Kind::Patterns(Part::Location),
-        },
-        Row {
-            name: "channel",
-            alias: "cha",
-            kind: Kind::Patterns(Part::Channel),
-        },
-        Row {
-            name: "nodata",
-            alias: "nodata",
-            kind: Kind::Nodata,
-        },
-        Row {
-            name: "quality",
-            alias: "quality",
-            kind: Kind::Quality,
-        },
-        Row {
-            name: "minimumlength",
-            alias: "minimumlength",
-            kind: Kind::Seconds,
-        },
-        Row {
-            name: "longestonly",
-            alias: "longestonly",
-            kind: Kind::Flag,
-        },
-        Row {
-            name: "format",
-            alias: "format",
-            kind: Kind::Format,
-        },
+        Row::with_alias("starttime", "start", Kind::Time),
+        Row::with_alias("endtime", "end", Kind::Time),
+        Row::with_alias("network", "net", Kind::Patterns(Part::Network)),
+        Row::with_alias("station", "sta", Kind::Patterns(Part::Station)),
+        Row::with_alias("location", "loc", Kind::Patterns(Part::Location)),
+        Row::with_alias("channel", "cha", Kind::Patterns(Part::Channel)),
+        Row::new("nodata", Kind::Nodata),
+        Row::new("quality", Kind::Quality),
+        Row::new("minimumlength", Kind::Seconds),
+        Row::new("longestonly", Kind::Flag),
+        Row::new("format", Kind::Format),
+    ]
+}
+
+/// The names of station: the times, the codes, and behind them the options.
+pub fn station_rows() -> [Row; 25]
+    ensures { rows_of result ≡ station_rows }
+{
+    [
+        Row::with_alias("starttime", "start", Kind::Time),
+        Row::with_alias("endtime", "end", Kind::Time),
+        Row::with_alias("network", "net", Kind::Patterns(Part::Network)),
+        Row::with_alias("station", "sta", Kind::Patterns(Part::Station)),
+        Row::with_alias("location", "loc", Kind::Patterns(Part::Location)),
+        Row::with_alias("channel", "cha", Kind::Patterns(Part::Channel)),
+        Row::new("nodata", Kind::Nodata),
+        Row::new("startbefore", Kind::Time),
+        Row::new("startafter", Kind::Time),
+        Row::new("endbefore", Kind::Time),
+        Row::new("endafter", Kind::Time),
+        Row::with_alias("minlatitude", "minlat", Kind::Latitude),
+        Row::with_alias("maxlatitude", "maxlat", Kind::Latitude),
+        Row::with_alias("minlongitude", "minlon", Kind::Longitude),
+        Row::with_alias("maxlongitude", "maxlon", Kind::Longitude),
+        Row::new("level", Kind::Level),
+        Row::new("format", Kind::TextForm),
+        Row::new("includerestricted", Kind::Always),
+        Row::new("includeavailability", Kind::Never),
+        Row::new("matchtimeseries", Kind::Never),
+        Row::with_alias("latitude", "lat", Kind::LeftOut),
+        Row::with_alias("longitude", "lon", Kind::LeftOut),
+        Row::new("minradius", Kind::LeftOut),
+        Row::new("maxradius", Kind::LeftOut),
+        Row::new("updatedafter", Kind::LeftOut),
     ]
 }
 

@@ -1,7 +1,7 @@
 //! The selection lines of a body.
 ghost use Rattle.std.specs.Prelude.{◌≡◌, ◌==◌, Option, IfOk, IfErr, MatchOption, map, filter};
 ghost use Rattle.query_words.specs.Bodies.{Fields, fields_of, limit_text, AreFields, AreCodeFields, IsWindow, AreSix, AreSelections, IsSelection, seen};
-ghost use Rattle.query_words.specs.DataGet.{IsLimit};
+ghost use Rattle.query_words.specs.Gets.{IsLimit};
 ghost use Rattle.query_words.specs.Selecting.{texts, HasNone, IsWindowPair, line_fault, RefusesRest};
 
 use crate::asked::is_backwards;

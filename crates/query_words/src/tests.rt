@@ -1,11 +1,11 @@
 //! Worked rows, and each public call with ample memory.
 use crate::{
-    QueryFault, data_get, data_post, read_longest, read_minimum, read_nodata, read_quality,
-    read_whole,
+    Area, Level, QueryFault, StationQuery, data_get, data_post, read_flag, read_minimum,
+    read_nodata, read_quality, read_whole, station_get, station_post,
 };
 use channel_globs::Code;
 use dataselect::{DataQuery, Nodata};
-use exact_time::Moment;
+use exact_time::{Decimal, Moment};
 use mseed_header::Quality;
 use std::alloc::Global;
 use std::process::Abort;
@@ -139,6 +139,138 @@ fn tells_the_first_fault_of_a_body(rt: HostRuntime) -> Result<(), Fail> {
     Ok(())
 }
 
+fn station_fault(alloc: Global, query: &[u8]) -> Option<QueryFault> {
+    match station_get(alloc, query) {
+        Ok(_) => None,
+        Err(fault) => Some(fault),
+    }
+}
+
+fn station_body_fault(alloc: Global, body: &[u8]) -> Option<QueryFault> {
+    match station_post(alloc, body) {
+        Ok(_) => None,
+        Err(fault) => Some(fault),
+    }
+}
+
+fn is_at(limit: Option<Decimal>, millionths: i128) -> bool {
+    match limit {
+        Some(limit) => limit.millionths == millionths,
+        None => false,
+    }
+}
+
+fn is_our_area(area: Area) -> bool {
+    is_at(area.latitude.least, -10_500_000)
+        && is_at(area.latitude.most, 60_000_000)
+        && area.longitude.least.is_none()
+        && is_at(area.longitude.most, 180_000_000)
+}
+
+fn selects_our_network(query: &StationQuery) -> Result<bool, Fail> {
+    let [only] = query.selections.as_slice() else {
+        return Ok(false);
+    };
+    Ok(
+        only.network.matches(&code("IU")?)
+            && !only.network.matches(&code("XX")?)
+            && only.station.is_any()
+            && only.channel.is_any(),
+    )
+}
+
+fn has_our_times(query: &StationQuery) -> Result<bool, Fail> {
+    Ok(
+        query.start_before == Some(moment("2024-02-01")?)
+            && query.start_after.is_none()
+            && query.end_before.is_none()
+            && query.end_after == Some(moment("2024-02-02")?),
+    )
+}
+
+#[test]
+fn reads_a_query_for_stations(rt: HostRuntime) -> Result<(), Fail> {
+    let text =
+        "net=IU&level=channel&startbefore=2024-02-01&endafter=2024-02-02&minlat=-10.5&maxlat=60&MaxLon=180&format=text&includerestricted=TRUE&includeavailability=0&nodata=404";
+    let query = station_get(rt.alloc(), text.as_bytes())?;
+    assert!(&rt; query.level == Level::Channel && query.nodata == Nodata::NotFound);
+    assert!(&rt; is_our_area(query.area));
+    assert!(&rt; has_our_times(&query)?);
+    assert!(&rt; selects_our_network(&query)?);
+    Ok(())
+}
+
+fn is_everywhere(area: Area) -> bool {
+    area.latitude.least.is_none()
+        && area.latitude.most.is_none()
+        && area.longitude.least.is_none()
+        && area.longitude.most.is_none()
+}
+
+#[test]
+fn takes_what_is_absent_for_its_default(rt: HostRuntime) -> Result<(), Fail> {
+    let all = station_get(rt.alloc(), b"")?;
+    assert!(&rt; all.level == Level::Station && all.nodata == Nodata::Quiet);
+    assert!(&rt; is_everywhere(all.area));
+    Ok(())
+}
+
+#[test]
+fn tells_the_first_fault_of_a_query_for_stations(rt: HostRuntime) -> Result<(), Fail> {
+    let alloc = rt.alloc();
+    let rows = [
+        ("quality=B", QueryFault::Unknown(1)),
+        ("minlat=1&minlatitude=1", QueryFault::Repeated(2)),
+        ("net=IU&level=response", QueryFault::OutOfScope(2)),
+        ("format=xml", QueryFault::OutOfScope(1)),
+        ("includerestricted=false", QueryFault::OutOfScope(1)),
+        ("includeavailability=True", QueryFault::OutOfScope(1)),
+        ("updatedafter=2024-01-01", QueryFault::OutOfScope(1)),
+        ("level=Station", QueryFault::Value(1)),
+        ("maxlat=90.000001", QueryFault::Value(1)),
+        ("minlon=-180.1", QueryFault::Value(1)),
+        ("minlat=5&maxlat=4.999999", QueryFault::Order),
+        ("maxlon=-1&minlon=1", QueryFault::Order),
+        ("start=2024-02-02&end=2024-02-01", QueryFault::Order),
+        ("minlat=5&maxlat=4&lat=1", QueryFault::OutOfScope(3)),
+    ];
+    for (query, fault) in rows {
+        assert_eq!(&rt;
+            station_fault(alloc, query.as_bytes()),
+            Some(fault),
+            "{query}"
+        );
+    }
+    let even = "minlat=5&maxlat=5&startafter=2024-02-02&startbefore=2024-02-01";
+    assert_eq!(&rt; station_fault(alloc, even.as_bytes()), None);
+    Ok(())
+}
+
+#[test]
+fn reads_a_body_for_stations(rt: HostRuntime) -> Result<(), Fail> {
+    let alloc = rt.alloc();
+    let query = station_post(alloc, b"level = network\nIU ANMO * * * *\n")?;
+    assert!(&rt; query.level == Level::Network);
+    if let [only] = query.selections.as_slice() {
+        assert!(&rt; only.station.matches(&code("ANMO")?) && only.location.is_any());
+    }
+    let rows = [
+        ("minlat=5\nmaxlat=4\n", QueryFault::Order),
+        ("maxlat=4\n", QueryFault::NoLine),
+        ("format=xml\nIU ANMO * *", QueryFault::OutOfScope(1)),
+        ("minlat=5\nmaxlat=4\nIU ANMO * *", QueryFault::Line(3)),
+        ("net=IU\n", QueryFault::Unknown(1)),
+    ];
+    for (body, fault) in rows {
+        assert_eq!(&rt;
+            station_body_fault(alloc, body.as_bytes()),
+            Some(fault),
+            "{body}"
+        );
+    }
+    Ok(())
+}
+
 fn repeated(alloc: Global, piece: &str, times: usize) -> Result<String, Fail> {
     let mut text = String::new(alloc);
     for _ in 0..times {
@@ -188,9 +320,9 @@ fn reads_single_values(rt: HostRuntime) -> Result<(), Fail> {
     assert_eq!(&rt; read_whole(b"0000000000000000512").ok(), Some(512));
     assert!(&rt; read_whole(b"").is_err() && read_whole(b"+1").is_err());
     assert!(&rt; read_whole(b"00000000000000000512").is_err());
-    assert_eq!(&rt; read_longest(b"False").ok(), Some(false));
-    assert_eq!(&rt; read_longest(b"1").ok(), Some(true));
-    assert!(&rt; read_longest(b"yes").is_err());
+    assert_eq!(&rt; read_flag(b"False").ok(), Some(false));
+    assert_eq!(&rt; read_flag(b"1").ok(), Some(true));
+    assert!(&rt; read_flag(b"yes").is_err());
     assert_eq!(&rt; read_nodata(b"404").ok(), Some(Nodata::NotFound));
     Ok(())
 }

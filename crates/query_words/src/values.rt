@@ -1,7 +1,8 @@
 //! The values of single parameters.
-ghost use Rattle.std.specs.Prelude.{◌≡◌, Option, Some, None, ℕ, MatchResult};
-ghost use Rattle.query_words.specs.Values.{asked_of, quality_of, nodata_of, flag_of, whole_of, IsMinimum};
+ghost use Rattle.std.specs.Prelude.{◌≡◌, ◌≤◌, ◌↔◌, IsTrue, unsigned_abs, Option, Some, None, ℕ, ℤ, MatchResult};
+ghost use Rattle.query_words.specs.Values.{asked_of, quality_of, nodata_of, flag_of, whole_of, level_of, IsMinimum, IsDegrees};
 
+use crate::station::Level;
 use dataselect::Nodata;
 use exact_time::{Decimal, are_digits, number_of};
 use mseed_header::Quality;
@@ -65,10 +66,9 @@ pub fn read_minimum(text: &[u8]) -> Result<u64, BadValue>
     Ok(micros as u64)
 }
 
-/// Whether only the longest segment is asked for (`longestonly`): `true` or `1`, `false` or `0`,
-/// without regard to case.
-pub fn read_longest(text: &[u8]) -> Result<bool, BadValue>
-    ensures exact { MatchResult result (λ longest. flag_of text.now ≡ Some longest) (λ _. flag_of text.now ≡ None) }
+/// A truth value, as of `longestonly`: `true` or `1`, `false` or `0`, without regard to case.
+pub fn read_flag(text: &[u8]) -> Result<bool, BadValue>
+    ensures exact { MatchResult result (λ flag. flag_of text.now ≡ Some flag) (λ _. flag_of text.now ≡ None) }
 {
     if text.eq_ignore_ascii_case(b"true") || text == b"1".as_slice() {
         return Ok(true);
@@ -90,4 +90,40 @@ pub fn read_nodata(text: &[u8]) -> Result<Nodata, BadValue>
         return Ok(Nodata::NotFound);
     }
     Err(BadValue)
+}
+
+/// What an answer has a line for (`level`): `network`, `station` or `channel`.
+pub fn read_level(text: &[u8]) -> Result<Level, BadValue>
+    ensures exact { MatchResult result (λ level. level_of text.now ≡ Some level) (λ _. level_of text.now ≡ None) }
+{
+    if text == b"station".as_slice() {
+        return Ok(Level::Station);
+    }
+    if text == b"network".as_slice() {
+        return Ok(Level::Network);
+    }
+    if text == b"channel".as_slice() {
+        return Ok(Level::Channel);
+    }
+    Err(BadValue)
+}
+
+// Whether a number has at most so many millionths on either side of 0.
+fn is_at_most(number: Decimal, most: u128) -> bool
+    ensures { IsTrue result ↔ (unsigned_abs number.millionths ≤ most) }
+{
+    number.millionths.unsigned_abs() <= most
+}
+
+/// A decimal of degrees, of at most so many millionths on either side of 0.
+pub fn read_degrees(most: u128, text: &[u8]) -> Result<Decimal, BadValue>
+    ensures exact { MatchResult result (λ degrees. IsDegrees most text.now degrees.millionths) (λ _. (millionths : ℤ) → ¬ (IsDegrees most text.now millionths)) }
+{
+    let Ok(degrees) = Decimal::read(text) else {
+        return Err(BadValue);
+    };
+    if !is_at_most(degrees, most) {
+        return Err(BadValue);
+    }
+    Ok(degrees)
 }

@@ -1,18 +1,19 @@
 //! The engine: reads parameters by a table of rows, one word for each row.
-ghost use Rattle.std.specs.Prelude.{◌≡◌, ◌≤◌, ◌==◌, List, [], length, replicate, None, IfOk, IfErr, OnOk, MatchResult};
+ghost use Rattle.std.specs.Prelude.{◌≡◌, ◌≤◌, ◌==◌, ◌↔◌, IsTrue, List, [], length, replicate, None, IfOk, IfErr, OnOk, MatchResult};
 ghost use Rattle.std.specs.List.{list_any};
 ghost use Rattle.channel_globs.specs.PatternText.{IsPatternList};
 ghost use Rattle.query_words.specs.Rows.{rows_of, kind_of};
-ghost use Rattle.query_words.specs.Values.{is_garbled};
+ghost use Rattle.query_words.specs.Values.{is_garbled, IsLeftOut};
 ghost use Rattle.query_words.specs.Parameters.{pairs_of, parameters_of};
-ghost use Rattle.query_words.specs.Words.{IsWord, RefusesWord, CannotRead, list_fault, IsOption, ReadsWord, PutsWord, RefusesPut, HasRead, RefusesWords};
+ghost use Rattle.query_words.specs.Words.{IsWord, RefusesWord, CannotRead, list_fault, IsOption, IsFixed, IsPlace, ReadsWord, PutsWord, RefusesPut, HasRead, RefusesWords};
 
 use crate::fault::QueryFault;
 use crate::rows::{Kind, Row, row_of};
-use crate::values::{read_longest, read_minimum, read_nodata, read_quality};
+use crate::station::Level;
+use crate::values::{read_degrees, read_flag, read_level, read_minimum, read_nodata, read_quality};
 use channel_globs::{GlobFault, Part, PatternList};
 use dataselect::Nodata;
-use exact_time::Moment;
+use exact_time::{Decimal, Moment};
 use mseed_header::Quality;
 use std::alloc::{AllocError, Global};
 
@@ -25,7 +26,10 @@ pub enum Word {
     Quality(Option<Quality>),
     Micros(u64),
     Flag(bool),
-    Format,
+    Level(Level),
+    Number(Decimal),
+    /// The one value that its kind takes.
+    Nothing,
 }
 
 /// Why a value is refused.
@@ -84,14 +88,62 @@ fn read_patterns(alloc: Global, part: Part, text: &[u8]) -> Result<Word, WordFau
     }
 }
 
-fn read_format(text: &[u8]) -> Result<Word, WordFault>
-    ensures word { IfOk result (IsWord Kind.Format text.now) }
-    ensures refused { IfErr result (CannotRead Kind.Format text.now) }
+// The value of a kind that takes one value alone.
+fn read_fixed(kind: Kind, text: &[u8]) -> Result<Word, WordFault>
+    requires { IsFixed kind }
+    ensures word { IfOk result (IsWord kind text.now) }
+    ensures refused { IfErr result (CannotRead kind text.now) }
 {
-    if text == b"miniseed".as_slice() {
-        return Ok(Word::Format);
+    let right = match kind {
+        Kind::Format => text == b"miniseed".as_slice(),
+        Kind::TextForm => text == b"text".as_slice(),
+        Kind::Always => read_flag(text) == Ok(true),
+        _ => read_flag(text) == Ok(false),
+    };
+    if right {
+        return Ok(Word::Nothing);
     }
     Err(WordFault::Value)
+}
+
+// A number of degrees.
+fn read_place(kind: Kind, text: &[u8]) -> Result<Word, WordFault>
+    requires { IsPlace kind }
+    ensures word { IfOk result (IsWord kind text.now) }
+    ensures refused { IfErr result (CannotRead kind text.now) }
+{
+    let number = match kind {
+        Kind::Latitude => read_degrees(90_000_000, text),
+        _ => read_degrees(180_000_000, text),
+    };
+    match number {
+        Ok(degrees) => Ok(Word::Number(degrees)),
+        Err(_) => Err(WordFault::Value),
+    }
+}
+
+fn read_level_word(text: &[u8]) -> Result<Word, WordFault>
+    ensures word { IfOk result (IsWord Kind.Level text.now) }
+    ensures refused { IfErr result (CannotRead Kind.Level text.now) }
+{
+    match read_level(text) {
+        Ok(level) => Ok(Word::Level(level)),
+        Err(_) => Err(WordFault::Value),
+    }
+}
+
+// Whether the value, or all under the name, is one that this data centre leaves out.
+fn is_left_out(kind: Kind, text: &[u8]) -> bool
+    ensures { IsTrue result ↔ IsLeftOut kind text.now }
+{
+    match kind {
+        Kind::LeftOut => true,
+        Kind::Level => text == b"response".as_slice(),
+        Kind::TextForm => text == b"xml".as_slice(),
+        Kind::Always => read_flag(text) == Ok(false),
+        Kind::Never => read_flag(text) == Ok(true),
+        _ => false,
+    }
 }
 
 // The value of an option.
@@ -113,7 +165,7 @@ fn read_option(kind: Kind, text: &[u8]) -> Result<Word, WordFault>
             Ok(micros) => Ok(Word::Micros(micros)),
             Err(_) => Err(WordFault::Value),
         },
-        _ => match read_longest(text) {
+        _ => match read_flag(text) {
             Ok(flag) => Ok(Word::Flag(flag)),
             Err(_) => Err(WordFault::Value),
         },
@@ -128,8 +180,11 @@ fn read_text(alloc: Global, kind: Kind, text: &[u8]) -> Result<Word, WordFault>
     match kind {
         Kind::Time => read_time(text),
         Kind::Patterns(part) => read_patterns(alloc, part, text),
-        Kind::Format => read_format(text),
         Kind::Nodata | Kind::Quality | Kind::Seconds | Kind::Flag => read_option(kind, text),
+        Kind::Latitude | Kind::Longitude => read_place(kind, text),
+        Kind::Level => read_level_word(text),
+        Kind::Format | Kind::TextForm | Kind::Always | Kind::Never => read_fixed(kind, text),
+        Kind::LeftOut => Err(WordFault::Value),
     }
 }
 
@@ -138,6 +193,9 @@ pub fn read_word(alloc: Global, kind: Kind, value: &str) -> Result<Word, WordFau
     ensures word { IfOk result (ReadsWord kind value.now) }
     ensures refused { IfErr result (RefusesWord kind value.now) }
 {
+    if is_left_out(kind, value.as_bytes()) {
+        return Err(WordFault::OutOfScope);
+    }
     if is_garbled(value) {
         return Err(WordFault::Value);
     }

@@ -74,11 +74,9 @@ pub fn add_spot(
     ensures err_spots { OnErr result ((n : Nslc) (q : Spot) → has_spot channels.new n q ≡ has_spot channels.old n q) }
     ensures err_longest { OnErr result ((n : Nslc) → longest_of channels.new n ≡ longest_of channels.old n) }
 {
-    if !channels.contains_key(&name) {
-        return begin(alloc, channels, name, spot, longest);
-    }
     if let Some(channel) = channels.get_mut(&name) {
         add_to(channel, spot, longest)?;
+        return Ok(());
     }
-    Ok(())
+    begin(alloc, channels, name, spot, longest)
 }

@@ -13,21 +13,21 @@ returns-in-Err-clause-refused c =
     first_bad c.args.bytes.now c.records.rest.now c.records.rows c.in-Err.fault c.records.invariant.split
     (some_left c.records.rest.now (sym c.is_empty.ensures ∙ c.records-test.true)) ((c.in-Err.ensures.refused c.in-Err.fault).0 refl)
 
-pub row_of-requires-clause-head : goal.row_of-requires-clause-head
-row_of-requires-clause-head c = record_from c.records.rest.now c.split_at.result.0.now c.in-Ok.header c.in-Ok.ensures.ok c.split_at.ensures.front c.split_at.ensures.front_len
+pub of-requires-clause-head : goal.of-requires-clause-head
+of-requires-clause-head c = record_from c.records.rest.now c.split_at.result.0.now c.in-Ok.header c.in-Ok.ensures.ok c.split_at.ensures.front c.split_at.ensures.front_len
 
 pub records-preserved : goal.records-preserved
 records-preserved c =
-    let row = c.in_ok-row_of.field-0 in
+    let row = c.in_ok-of.field-0 in
     let rows = c.records.rows in
     let header = c.in-Ok.header in
     let pushed : c.push.new.self ≡ rows ++ row ∷ [] = c.in_ok-push.ensures.ok in
     let front : c.split_at.result.0.now ≡ take header.length c.records.rest.now = c.split_at.ensures.front in
     let back : c.split_at.result.1.now ≡ drop header.length c.records.rest.now = c.split_at.ensures.back in
     let cut : c.split_at.result.0.now ++ c.split_at.result.1.now ≡ c.records.rest.now = rw (front, back) (take-append-drop header.length c.records.rest.now) in
-    let placed : IsPlaced c.args.entry c.args.moment (length rows) row = record { entry_is = c.in_ok-row_of.ensures.entry; moment_is = c.in_ok-row_of.ensures.moment; place_is = c.in_ok-row_of.ensures.place ∙ c.len-place.ensures } in
+    let placed : IsPlaced c.args.entry c.args.moment (length rows) row = record { entry_is = c.in_ok-of.ensures.entry; moment_is = c.in_ok-of.ensures.moment; place_is = c.in_ok-of.ensures.place ∙ c.len-place.ensures } in
     rw pushed (record {
-      split = images_more c.args.bytes.now c.records.rest.now c.split_at.result.0.now c.split_at.result.1.now rows row c.records.invariant.split c.in_ok-row_of.ensures.image cut;
+      split = images_more c.args.bytes.now c.records.rest.now c.split_at.result.0.now c.split_at.result.1.now rows row c.records.invariant.split c.in_ok-of.ensures.image cut;
       placed = placed_more c.args.entry c.args.moment rows row c.records.invariant.placed placed;
       few = omega (arith, length-append rows (row ∷ []), c.split_at.ensures.back_len, size_bounds c.records.rest.now header c.in-Ok.ensures.ok, c.records.invariant.few);
     })
@@ -43,8 +43,8 @@ returns-clause-exact c =
       placed = c.records.invariant.placed;
     }))
 
-pub returns-in_err-row_of-clause-exact : goal.returns-in_err-row_of-clause-exact
-returns-in_err-row_of-clause-exact c =
+pub returns-in_err-of-clause-exact : goal.returns-in_err-of-clause-exact
+returns-in_err-of-clause-exact c =
     let memory = err_from_is_err_and c.from_residual.result c.from_residual.ensures.1 in
     inl (memory.1 ∙ ap Err memory.2)
 

@@ -1,6 +1,6 @@
 use Rattle.std.proofs.Common.{sym, ◌∙◌, ◌==◌}
 use Rattle.query_words.specs.Bodies.{equals_sign}
-use Rattle.query_words.proofs.LineCuts.{place_found, place_missed}
+use Rattle.text_lines.proofs.LineCuts.{place_found, place_missed}
 use Rattle.query_words.proofs.front.equals_place.Goals as goal
 
 pub returns-in-Some-clause-value : goal.returns-in-Some-clause-value

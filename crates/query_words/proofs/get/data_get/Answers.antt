@@ -4,7 +4,10 @@ use Rattle.query_words.specs.declared.fault.QueryFault.TheVariants.{Order}
 use Rattle.std.proofs.lemmas.List.{get_or_read}
 use Rattle.std.proofs.lemmas.Result.{err_from_is_err_and}
 use Rattle.query_words.specs.Extracts.{limit_word, IsMade}
-use Rattle.query_words.proofs.OneDataGet.{only_read, only_refused, words_refused}
+use Rattle.query_words.proofs.OneDataGet.{only_read, only_refused}
+use Rattle.query_words.proofs.OneGet.{words_refused}
+use Rattle.query_words.specs.DataGet.{IsBackwards}
+use Rattle.query_words.specs.Rows.{data_rows}
 use Rattle.query_words.proofs.SaidWords.{few_enough, asked, turned}
 use Rattle.query_words.proofs.get.data_get.Goals as goal
 
@@ -12,7 +15,7 @@ pub returns-in_err-words-clause-exact : goal.returns-in_err-words-clause-exact
 returns-in_err-words-clause-exact c =
     let p = err_from_is_err_and c.from_residual.result c.from_residual.ensures.1 in
     let few = few_enough _ _ c.has_too_many.ensures c.if-has_too_many.false in
-    let refused = words_refused c.args.query.now few c.in_err-words.field-0.0 (rw c.data_rows.ensures at c.in_err-words.ensures.refused) in
+    let refused = words_refused data_rows IsBackwards c.args.query.now few c.in_err-words.field-0.0 (rw c.data_rows.ensures at c.in_err-words.ensures.refused) in
     elim (only_refused c.args.query.now c.in_err-words.field-0.0 refused) [
       | inl starved ↦ inl (p.1 ∙ ap Err (p.2 ∙ starved))
       | inr only ↦ inr (rw (p.1, p.2) only)

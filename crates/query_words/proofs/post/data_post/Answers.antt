@@ -4,7 +4,9 @@ use Rattle.query_words.specs.declared.fault.QueryFault.TheVariants.{NoLine}
 use Rattle.query_words.specs.declared.lines.BodyLine.{BodyLine}
 use Rattle.query_words.specs.Bodies.{seen, front_count}
 use Rattle.query_words.proofs.OneDataPost.{only_read, only_refused}
-use Rattle.query_words.proofs.PostSteps.{post_front, post_rest, post_none, post_asked}
+use Rattle.query_words.proofs.PostSteps.{option_rows, post_front, post_rest, post_none, post_asked}
+use Rattle.query_words.specs.DataPost.{IsTurned}
+use Rattle.query_words.specs.Rows.{data_options}
 use Rattle.query_words.proofs.post.data_post.Goals as goal
 
 pub returns-in_err-words-clause-refused : goal.returns-in_err-words-clause-refused
@@ -15,7 +17,7 @@ returns-in_err-words-clause-refused c =
     let others : length lines - c.front_len-front.result ≤ 10_000 = omega (arith, c.len.ensures, c.in_ok-lines.lines.ok, c.if-len-front-gt-MOST_SELECTIONS.false) in
     let front = rw c.deref-2.ensures.value at c.in_err-words.ensures.refused in
     let fault = c.in_err-words.field-0.0 in
-    let refused = post_front c.args.body.now c.data_rows.result lines c.front_len-front.result c.data_rows.ensures c.in_ok-lines.ensures at c.if-front-gt-MOST_PARAMETERS.false others fault front in
+    let refused = post_front data_options IsTurned c.args.body.now 5 c.data_rows.result lines c.front_len-front.result (option_rows c.data_rows.result c.data_rows.ensures) c.in_ok-lines.ensures at c.if-front-gt-MOST_PARAMETERS.false others fault front in
     rw (p.1, p.2) refused
 
 pub returns-in_err-words-clause-exact : goal.returns-in_err-words-clause-exact
@@ -26,7 +28,7 @@ returns-in_err-words-clause-exact c =
     let others : length lines - c.front_len-front.result ≤ 10_000 = omega (arith, c.len.ensures, c.in_ok-lines.lines.ok, c.if-len-front-gt-MOST_SELECTIONS.false) in
     let front = rw c.deref-2.ensures.value at c.in_err-words.ensures.refused in
     let fault = c.in_err-words.field-0.0 in
-    let refused = post_front c.args.body.now c.data_rows.result lines c.front_len-front.result c.data_rows.ensures c.in_ok-lines.ensures at c.if-front-gt-MOST_PARAMETERS.false others fault front in
+    let refused = post_front data_options IsTurned c.args.body.now 5 c.data_rows.result lines c.front_len-front.result (option_rows c.data_rows.result c.data_rows.ensures) c.in_ok-lines.ensures at c.if-front-gt-MOST_PARAMETERS.false others fault front in
     elim (only_refused c.args.body.now fault refused) [
       | inl starved ↦ inl (p.1 ∙ ap Err (p.2 ∙ starved))
       | inr only ↦ inr (rw (p.1, p.2) only)
@@ -41,7 +43,7 @@ returns-in_err-selections-clause-refused c =
     let words = rw c.deref-2.ensures.value at c.in_ok-words.ensures.words in
     let rest = rw c.deref-3.ensures.value at c.in_err-selections.ensures.refused in
     let fault = c.in_err-selections.field-0.0 in
-    let refused = post_rest c.args.body.now c.data_rows.result lines c.front_len-front.result c.data_rows.ensures c.in_ok-lines.ensures at c.if-front-gt-MOST_PARAMETERS.false others _ words fault rest in
+    let refused = post_rest data_options IsTurned c.args.body.now 5 c.data_rows.result lines c.front_len-front.result (option_rows c.data_rows.result c.data_rows.ensures) c.in_ok-lines.ensures at c.if-front-gt-MOST_PARAMETERS.false others _ words fault rest in
     rw (p.1, p.2) refused
 
 pub returns-in_err-selections-clause-exact : goal.returns-in_err-selections-clause-exact
@@ -53,7 +55,7 @@ returns-in_err-selections-clause-exact c =
     let words = rw c.deref-2.ensures.value at c.in_ok-words.ensures.words in
     let rest = rw c.deref-3.ensures.value at c.in_err-selections.ensures.refused in
     let fault = c.in_err-selections.field-0.0 in
-    let refused = post_rest c.args.body.now c.data_rows.result lines c.front_len-front.result c.data_rows.ensures c.in_ok-lines.ensures at c.if-front-gt-MOST_PARAMETERS.false others _ words fault rest in
+    let refused = post_rest data_options IsTurned c.args.body.now 5 c.data_rows.result lines c.front_len-front.result (option_rows c.data_rows.result c.data_rows.ensures) c.in_ok-lines.ensures at c.if-front-gt-MOST_PARAMETERS.false others _ words fault rest in
     elim (only_refused c.args.body.now fault refused) [
       | inl starved ↦ inl (p.1 ∙ ap Err (p.2 ∙ starved))
       | inr only ↦ inr (rw (p.1, p.2) only)
@@ -66,7 +68,7 @@ returns-then-is_empty-clause-refused c =
     let others : length lines - c.front_len-front.result ≤ 10_000 = omega (arith, c.len.ensures, c.in_ok-lines.lines.ok, c.if-len-front-gt-MOST_SELECTIONS.false) in
     let words = rw c.deref-2.ensures.value at c.in_ok-words.ensures.words in
     let all = rw c.deref-3.ensures.value at c.in_ok-selections.ensures.selections in
-    let none = post_none c.args.body.now c.data_rows.result lines c.front_len-front.result c.data_rows.ensures c.in_ok-lines.ensures at c.if-front-gt-MOST_PARAMETERS.false others _ words _ all _ c.is_empty.ensures c.if-is_empty.true in
+    let none = post_none data_options IsTurned c.args.body.now 5 c.data_rows.result lines c.front_len-front.result (option_rows c.data_rows.result c.data_rows.ensures) c.in_ok-lines.ensures at c.if-front-gt-MOST_PARAMETERS.false others _ words _ all _ c.is_empty.ensures (λ t. t) c.if-is_empty.true in
     none
 
 pub returns-then-is_empty-clause-exact : goal.returns-then-is_empty-clause-exact
@@ -76,7 +78,7 @@ returns-then-is_empty-clause-exact c =
     let others : length lines - c.front_len-front.result ≤ 10_000 = omega (arith, c.len.ensures, c.in_ok-lines.lines.ok, c.if-len-front-gt-MOST_SELECTIONS.false) in
     let words = rw c.deref-2.ensures.value at c.in_ok-words.ensures.words in
     let all = rw c.deref-3.ensures.value at c.in_ok-selections.ensures.selections in
-    let none = post_none c.args.body.now c.data_rows.result lines c.front_len-front.result c.data_rows.ensures c.in_ok-lines.ensures at c.if-front-gt-MOST_PARAMETERS.false others _ words _ all _ c.is_empty.ensures c.if-is_empty.true in
+    let none = post_none data_options IsTurned c.args.body.now 5 c.data_rows.result lines c.front_len-front.result (option_rows c.data_rows.result c.data_rows.ensures) c.in_ok-lines.ensures at c.if-front-gt-MOST_PARAMETERS.false others _ words _ all _ c.is_empty.ensures (λ t. t) c.if-is_empty.true in
     elim (only_refused c.args.body.now NoLine none) [
       | inl starved ↦ cc
       | inr only ↦ inr only

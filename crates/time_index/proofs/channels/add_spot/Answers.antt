@@ -6,13 +6,13 @@ use Rattle.time_index.specs.Spots.{spot_cmp}
 use Rattle.time_index.proofs.Named.{spots_grown, longest_grown, spots_kept, longest_kept}
 use Rattle.time_index.proofs.channels.add_spot.Goals as goal
 
-pub returns-in_ok-add_to-clause-spots : goal.returns-in_ok-add_to-clause-spots
-returns-in_ok-add_to-clause-spots c =
+pub returns-in-Some-clause-spots : goal.returns-in-Some-clause-spots
+returns-in-Some-clause-spots c =
     spots_grown c.args.channels.now (c.get_mut.follows.lender c.add_to.new.channel) c.args.name (Some c.in-Some.channel.now) c.add_to.new.channel (sym c.in-Some.ensures.value)
     (((c.get_mut.follows.holds c.add_to.new.channel).3 (search rules)).0) c.args.spot c.in_ok-add_to.ensures.spots
 
-pub returns-in_ok-add_to-clause-longest : goal.returns-in_ok-add_to-clause-longest
-returns-in_ok-add_to-clause-longest c =
+pub returns-in-Some-clause-longest : goal.returns-in-Some-clause-longest
+returns-in-Some-clause-longest c =
     longest_grown c.args.channels.now (c.get_mut.follows.lender c.add_to.new.channel) c.args.name (Some c.in-Some.channel.now) c.add_to.new.channel (sym c.in-Some.ensures.value)
     (((c.get_mut.follows.holds c.add_to.new.channel).3 (search rules)).0) c.args.longest c.in_ok-add_to.ensures.longest
 

@@ -1,0 +1,14 @@
+use Rattle.std.proofs.Common.{◌-◌, ◌≤◌}
+use Rattle.centre.specs.declared.TheConstants.{MAX_INPUT}
+use Rattle.centre.proofs.Shelved.{IsTaken}
+use Rattle.centre.proofs.intake.take_records.Given as goal
+
+-- the pieces so far were taken, and cut as far as they go
+abbrev pub invariant-pieces : goal.invariant-pieces
+invariant-pieces g l = record {
+  taken : IsTaken l.query (g.S.Source.left l.fn.source) (g.S.Source.left l.source) l.total l.intake.rest l.intake.place l.intake.fault (g.H.Shelf.rows l.shelf);
+  later : g.S.Source.faults l.fn.source ≤ g.S.Source.faults l.source;
+}
+
+abbrev pub decreases-pieces : goal.decreases-pieces
+decreases-pieces g l = MAX_INPUT - l.total

@@ -1,0 +1,43 @@
+use crate::parts::Glob;
+use channel_globs::{Code, Nslc};
+use exact_time::{Moment, Text};
+
+/// What makes two lines statements on one thing, of which the later stands. The pattern lists of two
+/// keys are compared as they were written.
+#[derive(Debug, Drop)]
+pub enum Key {
+    Net {
+        network: Code,
+        start: Moment,
+    },
+    Sta {
+        network: Code,
+        station: Code,
+        start: Moment,
+    },
+    Cha {
+        name: Nslc,
+        start: Moment,
+    },
+    Evt {
+        id: Text,
+    },
+    Rst {
+        network: Glob,
+        station: Glob,
+        location: Glob,
+        channel: Glob,
+        start: Moment,
+    },
+    Grt {
+        user: Text,
+        network: Glob,
+        station: Glob,
+        location: Glob,
+        channel: Glob,
+        start: Moment,
+    },
+    Usr {
+        name: Text,
+    },
+}

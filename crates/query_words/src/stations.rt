@@ -1,0 +1,42 @@
+//! The query for stations of a query string.
+ghost use Rattle.std.specs.Prelude.{◌⊎◌, IfOk, IfErr, IsErrOf};
+ghost use Rattle.list_laws.specs.Only.{IsOnly};
+ghost use Rattle.query_words.specs.StationGet.{IsStationGet, IsStationGetFault, RefusesStationGet};
+
+use crate::asked::{is_backwards, limit_in, selection_in};
+use crate::fault::QueryFault;
+use crate::get::has_too_many;
+use crate::places::{is_area_in_order, station_options_in, station_query_of};
+use crate::rows::{CODES, END, OPTIONS, START, station_rows};
+use crate::station::StationQuery;
+use crate::words::read_words;
+use exact_time::Many;
+use std::alloc::Global;
+
+/// The query for stations that a query string spells (FDSN Web Service Specifications 1.2, station). Names
+/// are compared without regard to case, and a name and its alias are one name. The first wrong
+/// parameter decides; a start after the end, or a least limit above its greatest, comes last.
+pub fn station_get(alloc: Global, query: &[u8]) -> Result<StationQuery, QueryFault>
+    ensures query { IfOk result (IsStationGet query.now) }
+    ensures refused { IfErr result (RefusesStationGet query.now) }
+    ensures exact { IsErrOf result QueryFault.OutOfMemory
+        ⊎ IsOnly (IsStationGet query.now) (IsStationGetFault query.now) result }
+{
+    if has_too_many(query) {
+        return Err(QueryFault::TooMany);
+    }
+    let mut words = read_words(alloc, &station_rows(), query)?;
+    let start = limit_in(&words[START]);
+    let end = limit_in(&words[END]);
+    let options = station_options_in(&words, OPTIONS);
+    if is_backwards(start, end) {
+        return Err(QueryFault::Order);
+    }
+    if !is_area_in_order(options.area) {
+        return Err(QueryFault::Order);
+    }
+    let selection = selection_in(alloc, &mut words, CODES, start, end)?;
+    let mut selections = Many::new(alloc);
+    selections.push(selection)?;
+    Ok(station_query_of(selections, options))
+}
