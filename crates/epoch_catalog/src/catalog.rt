@@ -1,0 +1,93 @@
+//! The catalog of live lines.
+ghost use Rattle.std.specs.Prelude.{◌≡◌, false, List, [], ◌++◌, map, filter, OnOk, OnErr, IfOk, IfErr, IsErrOf, ◌⊎◌, MatchOption, Contains};
+ghost use Rattle.std.specs.List.{list_any};
+ghost use Rattle.list_laws.specs.Only.{IsOnly};
+ghost use Rattle.epochs.specs.Lines.{Entry};
+ghost use Rattle.epochs.specs.Values.{user_line};
+ghost use Rattle.epochs.specs.Views.{seen};
+ghost use Rattle.epoch_catalog.specs.Catalog.{IsCatalog, is_user};
+ghost use Rattle.epoch_catalog.specs.Families.{is_in};
+ghost use Rattle.epoch_catalog.specs.Kept.{AreKept, IsCheckFault, RefusesLines};
+ghost use Rattle.epoch_catalog.specs.LiveLines.{live_lines};
+
+use crate::check::check_lines;
+use crate::families::{Family, family_in};
+use crate::merging::merge;
+use crate::rule::CheckFault;
+use crate::users::user_in;
+use epochs::{Line, User};
+use exact_time::{Many, OutOfMemory};
+use std::alloc::Global;
+use std::marker::Model;
+
+/// The live lines, in the order of their keys (`specs/KeyOrder.antt`). Seen as their list; its type keeps
+/// `IsCatalog` of `specs/Catalog.antt`.
+#[derive(Debug, Drop)]
+pub struct Catalog {
+    lines: Vec<Line>,
+}
+
+impl Model for Catalog {
+    ghost Value = { List Entry };
+
+    ghost view = { λ c. map seen c.lines.items };
+
+    ghost invariant = { λ c. IsCatalog (map seen c.lines.items) };
+}
+
+impl Catalog {
+    /// No lines. Takes no memory.
+    pub fn new(alloc: Global) -> Catalog
+        ensures { result ≡ [] }
+    {
+        Catalog {
+            lines: Vec::new(alloc),
+        }
+    }
+
+    /// The live lines, in the order of their keys.
+    pub fn lines(&self) -> &[Line]
+        ensures lines { map seen result.now ≡ self.now }
+        ensures kept { IsCatalog self.now }
+    {
+        self.lines.as_slice()
+    }
+
+    /// The user of that name, found by halves.
+    pub fn user(&self, name: &[u8]) -> Option<&User>
+        ensures { MatchOption result (list_any (is_user name.now) self.now ≡ false) (λ user. (user.now.name ≡ name.now) × Contains self.now (user_line user.now.name user.now.ha1 user.now.roles)) }
+    {
+        user_in(self.lines.as_slice(), name)
+    }
+
+    /// The lines of a family, in order, found by halves.
+    pub fn family(&self, family: &Family) -> &[Line]
+        ensures { map seen result.now ≡ filter (is_in family.now) self.now }
+    {
+        family_in(self.lines.as_slice(), family)
+    }
+
+    /// Whether lines keep the rules, each over the live lines with the lines before it: else the first line
+    /// that breaks one, counted from 1, and the first rule that it breaks. Changes nothing.
+    pub fn check(&self, lines: &Many<Line>) -> Result<(), CheckFault>
+        ensures kept { IfOk result (λ _. AreKept self.now (map seen lines.now)) }
+        ensures refused { IfErr result (RefusesLines self.now (map seen lines.now)) }
+        ensures exact { IsErrOf result CheckFault.OutOfMemory
+            ⊎ IsOnly (λ _. AreKept self.now (map seen lines.now)) (IsCheckFault self.now (map seen lines.now)) result }
+    {
+        check_lines(
+            *self.lines.allocator(),
+            self.lines.as_slice(),
+            lines.as_slice(),
+        )
+    }
+
+    /// Takes in more lines, which keep the rules. Where memory is missing, nothing changes.
+    pub fn apply(&mut self, lines: &Many<Line>) -> Result<(), OutOfMemory>
+        requires { AreKept self.old (map seen lines.now) }
+        ensures ok { OnOk result (self.new ≡ live_lines (self.old ++ map seen lines.now)) }
+        ensures err { OnErr result (self.new ≡ self.old) }
+    {
+        merge(&mut self.lines, lines.as_slice())
+    }
+}

@@ -1,0 +1,55 @@
+//! Lines that stand together in a catalog.
+ghost use Rattle.std.specs.Prelude.{◌≡◌, map, filter};
+ghost use Rattle.epochs.specs.Views.{seen};
+ghost use Rattle.epoch_catalog.specs.Catalog.{IsCatalog};
+ghost use Rattle.epoch_catalog.specs.Families.{is_in, family_place};
+ghost use Rattle.epoch_catalog.specs.KeyOrder.{parts_of};
+
+use crate::key_order::key_view;
+use channel_globs::Code;
+use epochs::Line;
+use std::cmp::Ordering;
+
+/// Lines that stand together in a catalog.
+#[derive(Clone, Copy, Debug)]
+pub enum Family {
+    /// The epochs of networks.
+    Networks,
+    /// The epochs of stations.
+    Stations,
+    /// The epochs of channels.
+    Channels,
+    /// The epochs of the stations of a network.
+    StationsOf(Code),
+    /// The epochs of the channels of a station: its network, and its own code.
+    ChannelsOf(Code, Code),
+}
+
+// Where a line stands to a family: before it, in it or behind it.
+fn place_to(family: &Family, line: &Line) -> Ordering
+    ensures { result ≡ family_place family.now (parts_of (seen line.now)) }
+{
+    let key = key_view(line);
+    match family {
+        Family::Networks => key.rank.cmp(&0),
+        Family::Stations => key.rank.cmp(&1),
+        Family::Channels => key.rank.cmp(&2),
+        Family::StationsOf(network) => { key.rank.cmp(&1).then(key.first.cmp(&network.as_slice())) }
+        Family::ChannelsOf(network, station) => key.rank.cmp(&2).then(
+            key.first
+                .cmp(&network.as_slice())
+                .then(key.second.cmp(&station.as_slice())),
+        ),
+    }
+}
+
+/// The lines of a family among those of a catalog, found by halves.
+pub fn family_in<'a>(lines: &'a [Line], family: &Family) -> &'a [Line]
+    requires { IsCatalog (map seen lines.now) }
+    ensures { map seen result.now ≡ filter (is_in family.now) (map seen lines.now) }
+{
+    let first = lines.partition_point(|line| place_to(family, line).is_lt());
+    let rest = &lines[first..];
+    let count = rest.partition_point(|line| place_to(family, line).is_le());
+    &rest[..count]
+}

@@ -1,0 +1,42 @@
+//! The users among the lines of a catalog.
+ghost use Rattle.std.specs.Prelude.{◌≡◌, false, map, MatchOption, Contains};
+ghost use Rattle.std.specs.List.{list_any};
+ghost use Rattle.epochs.specs.Values.{user_line};
+ghost use Rattle.epochs.specs.Views.{seen};
+ghost use Rattle.epochs.specs.declared.kinds.Kind.TheVariants.{Usr};
+ghost use Rattle.epoch_catalog.specs.Catalog.{IsCatalog, is_user, user_place};
+ghost use Rattle.epoch_catalog.specs.KeyOrder.{parts_of};
+ghost use Rattle.epoch_catalog.specs.Rules.{is_line_of};
+
+use crate::key_order::key_view;
+use epochs::{Line, User};
+use std::cmp::Ordering;
+
+// Where a line stands to the user of a name: before, at it or behind.
+fn place_to(name: &[u8], line: &Line) -> Ordering
+    ensures { result ≡ user_place name.now (parts_of (seen line.now)) }
+{
+    let key = key_view(line);
+    key.rank.cmp(&6).then(key.first.cmp(&name))
+}
+
+// The user that a line states.
+fn user_of(line: &Line) -> Option<&User>
+    ensures { MatchOption result (is_line_of Usr (seen line.now) ≡ false) (λ user. seen line.now ≡ user_line user.now.name user.now.ha1 user.now.roles) }
+{
+    match line {
+        Line::Usr(user) => Some(user),
+        _ => None,
+    }
+}
+
+/// The user of that name among the lines of a catalog, found by halves.
+pub fn user_in<'a>(lines: &'a [Line], name: &[u8]) -> Option<&'a User>
+    requires { IsCatalog (map seen lines.now) }
+    ensures { MatchOption result (list_any (is_user name.now) (map seen lines.now) ≡ false) (λ user. (user.now.name ≡ name.now) × Contains (map seen lines.now) (user_line user.now.name user.now.ha1 user.now.roles)) }
+{
+    match lines.binary_search_by(|line| place_to(name, line)) {
+        Ok(place) => user_of(&lines[place]),
+        Err(_) => None,
+    }
+}
