@@ -1,0 +1,20 @@
+-- Lines of a family, as the program lends them.
+use Rattle.std.proofs.Common.{◌≡◌, Bool, false, ◌||◌, List, map, Result, Ok, Err, OnOk, sym, ap, ◌∙◌}
+use Rattle.std.specs.List.{list_any}
+use Rattle.epochs.specs.declared.line.Line.{Line}
+use Rattle.epochs.specs.Lines.{Entry}
+use Rattle.epochs.specs.Views.{seen}
+use Rattle.epochs.proofs.FieldSteps.{list_any-map}
+
+-- a test of some line of a slice is one of what these lines say
+pub any_seen : (test : Entry → Bool) (lines : List Line) (entries : List Entry) (result : Bool) → map seen lines ≡ entries → result ≡ list_any (λ line. test (seen line)) lines → result ≡ list_any test entries
+any_seen test lines entries result same is = is ∙ sym (list_any-map test seen lines) ∙ ap (list_any test) same
+
+-- where the first of two tests fails, the second decides
+pub or_second : (first second result : Bool) → first ≡ false → result ≡ second → result ≡ (first || second)
+or_second first second result fails is = is ∙ ap (λ b. b || second) (sym fails)
+
+-- what follows from a fact of a success
+pub ok_step : {T E P Q : Type 0} (r : Result T E) → (P → Q) → OnOk r P → OnOk r Q
+ok_step (Ok x) f h = f h
+ok_step (Err e) f h = tt

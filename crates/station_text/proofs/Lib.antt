@@ -1,0 +1,4 @@
+pub mod Asking
+pub mod Examples
+pub mod Inside
+pub mod Printable

@@ -1,0 +1,6 @@
+pub mod Answers
+pub mod Asked
+pub mod Columns
+pub mod Lines
+pub mod Texts
+pub mod Windows

@@ -1,0 +1,192 @@
+//! The lines of the text answers.
+ghost use Rattle.std.specs.Prelude.{◌≡◌, [], ◌++◌, List, map, true, IfOk, OnOk};
+ghost use Rattle.std.specs.List.{AllByRecursion, filter_map};
+ghost use Rattle.epochs.specs.Lines.{Entry};
+ghost use Rattle.epochs.specs.Views.{seen};
+ghost use Rattle.epochs.specs.declared.line.Line.TheVariants.{Net, Sta, Cha};
+ghost use Rattle.epoch_catalog.specs.Rules.{is_epoch};
+ghost use Rattle.list_laws.specs.InOrder.{in_order};
+ghost use Rattle.epoch_catalog.specs.KeyOrder.{text_cmp};
+ghost use Rattle.station_text.specs.Asked.{station_within, total_stations};
+ghost use Rattle.station_text.specs.Texts.{header_text, line_text, text_of};
+ghost use Rattle.station_text.specs.Lines.{line_at};
+
+use crate::asked::{network_epoch, station_epoch};
+use crate::columns::{Column, write_columns};
+use channel_globs::Code;
+use epoch_catalog::{Catalog, Family};
+use epochs::{ChannelEpoch, Line, NetworkEpoch, StationEpoch};
+use exact_time::{OutOfMemory, Text};
+use query_words::Level;
+use std::alloc::Global;
+use std::collections::BTreeSet;
+
+// The code of the station whose epoch the line is, if that is within the network's.
+fn station_within(network: &NetworkEpoch, line: &Line) -> Option<Code>
+    ensures { result ≡ station_within (seen (Net network.now)) (seen line.now) }
+{
+    match line {
+        Line::Sta(station) => code_within(network, station),
+        _ => None,
+    }
+}
+
+fn code_within(network: &NetworkEpoch, station: &StationEpoch) -> Option<Code>
+    ensures { result ≡ station_within (seen (Net network.now)) (seen (Sta station.now)) }
+{
+    if network_epoch(network).contains(&station_epoch(station)) {
+        Some(station.station)
+    } else {
+        None
+    }
+}
+
+// The codes of the stations of some lines whose epochs are within the network's.
+fn codes_within(
+    alloc: Global,
+    network: &NetworkEpoch,
+    lines: &[Line],
+) -> Result<BTreeSet<Code>, OutOfMemory>
+    ensures { IfOk result (λ codes. codes.keys ≡ in_order text_cmp [] (filter_map (station_within (seen (Net network.now))) (map seen lines.now))) }
+{
+    let mut codes = BTreeSet::new(alloc);
+    'lines: for line in lines {
+        if let Some(code) = station_within(network, line) {
+            codes.insert(code)?;
+        }
+    }
+    Ok(codes)
+}
+
+// How many stations have an epoch within the network's.
+fn total_stations(
+    alloc: Global,
+    catalog: &Catalog,
+    network: &NetworkEpoch,
+) -> Result<u64, OutOfMemory>
+    ensures { IfOk result (λ total. total ≡ total_stations catalog.now (seen (Net network.now))) }
+{
+    let family = Family::StationsOf(network.network);
+    let codes = codes_within(alloc, network, catalog.family(&family))?;
+    Ok(codes.len() as u64)
+}
+
+fn write_network(
+    alloc: Global,
+    out: &mut Text,
+    catalog: &Catalog,
+    network: &NetworkEpoch,
+) -> Result<(), OutOfMemory>
+    ensures { OnOk result (out.new ≡ out.old ++ line_text catalog.now (seen (Net network.now))) }
+{
+    let total = total_stations(alloc, catalog, network)?;
+    write_columns(
+        alloc,
+        out,
+        &[
+            Column::Code(network.network),
+            Column::Words(&network.description),
+            Column::Start(network.start),
+            Column::End(network.end),
+            Column::Count(total),
+        ],
+    )
+}
+
+fn write_station(alloc: Global, out: &mut Text, station: &StationEpoch) -> Result<(), OutOfMemory>
+    ensures { OnOk result ((live : List Entry) → out.new ≡ out.old ++ line_text live (seen (Sta station.now))) }
+{
+    write_columns(
+        alloc,
+        out,
+        &[
+            Column::Code(station.network),
+            Column::Code(station.station),
+            Column::Number(station.latitude),
+            Column::Number(station.longitude),
+            Column::Number(station.elevation),
+            Column::Words(&station.site),
+            Column::Start(station.start),
+            Column::End(station.end),
+        ],
+    )
+}
+
+fn write_channel(alloc: Global, out: &mut Text, channel: &ChannelEpoch) -> Result<(), OutOfMemory>
+    ensures { OnOk result ((live : List Entry) → out.new ≡ out.old ++ line_text live (seen (Cha channel.now))) }
+{
+    write_columns(
+        alloc,
+        out,
+        &[
+            Column::Code(channel.name.network),
+            Column::Code(channel.name.station),
+            Column::Code(channel.name.location),
+            Column::Code(channel.name.channel),
+            Column::Number(channel.latitude),
+            Column::Number(channel.longitude),
+            Column::Number(channel.elevation),
+            Column::Number(channel.depth),
+            Column::Optional(channel.azimuth),
+            Column::Optional(channel.dip),
+            Column::Words(&channel.sensor),
+            Column::Optional(channel.scale),
+            Column::Optional(channel.scale_freq),
+            Column::Words(&channel.scale_units),
+            Column::Number(channel.sample_rate),
+            Column::Start(channel.start),
+            Column::End(channel.end),
+        ],
+    )
+}
+
+// Appends the line of an epoch.
+fn write_line(
+    alloc: Global,
+    out: &mut Text,
+    catalog: &Catalog,
+    line: &Line,
+) -> Result<(), OutOfMemory>
+    requires { is_epoch (seen line.now) ≡ true }
+    ensures { OnOk result (out.new ≡ out.old ++ line_text catalog.now (seen line.now)) }
+{
+    match line {
+        Line::Net(network) => write_network(alloc, out, catalog, network),
+        Line::Sta(station) => write_station(alloc, out, station),
+        Line::Cha(channel) => write_channel(alloc, out, channel),
+        _ => Ok(()),
+    }
+}
+
+// The header line.
+fn header(level: Level) -> &'static str
+    ensures { result.now ≡ header_text level }
+{
+    match level {
+        Level::Network => "#Network|Description|StartTime|EndTime|TotalStations\n",
+        Level::Station => {
+            "#Network|Station|Latitude|Longitude|Elevation|SiteName|StartTime|EndTime\n"
+        }
+        Level::Channel => {
+            "#Network|Station|Location|Channel|Latitude|Longitude|Elevation|Depth|Azimuth|Dip|SensorDescription|Scale|ScaleFreq|ScaleUnits|SampleRate|StartTime|EndTime\n"
+        }
+    }
+}
+
+/// The header line, and then a line for each of these epochs.
+pub fn text_of(
+    alloc: Global,
+    catalog: &Catalog,
+    level: Level,
+    lines: &[&Line],
+) -> Result<Text, OutOfMemory>
+    requires { AllByRecursion (λ line. is_epoch (line_at line) ≡ true) lines.now }
+    ensures { IfOk result (λ text. text ≡ text_of level catalog.now (map line_at lines.now)) }
+{
+    let mut text = Text::new(alloc);
+    text.push(header(level))?;
+    'lines: for line in lines {
+        write_line(alloc, &mut text, catalog, line)?;
+    }
+    Ok(text)
+}

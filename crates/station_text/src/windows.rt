@@ -1,0 +1,153 @@
+//! The time and the place of an epoch against those that are asked for.
+ghost use Rattle.std.specs.Prelude.{◌≡◌, ◌&&◌, int_le, int_lt};
+ghost use Rattle.dataselect.specs.Query.{holds};
+ghost use Rattle.epoch_catalog.specs.Rules.{ends_by};
+ghost use Rattle.station_text.specs.Windows.{ends_from, ends_before, ends_after, meets, passes, is_within_limits, is_place_in, is_everywhere};
+ghost use Rattle.station_text.specs.Columns.{end_seen};
+
+use dataselect::Selection;
+use exact_time::{Decimal, Moment};
+use query_words::{Area, Limits2, StationQuery};
+
+/// An epoch: from its start up to its end, if it has one.
+#[derive(Clone, Copy, Debug)]
+pub struct Epoch {
+    pub start: Moment,
+    pub end: Option<Moment>,
+}
+
+// Whether a moment is at a limit or before it.
+fn is_by(moment: Moment, limit: Option<Moment>) -> bool
+    ensures { result ≡ holds (λ t. int_le moment.micros t.micros) limit }
+{
+    match limit {
+        None => true,
+        Some(limit) => moment.micros <= limit.micros,
+    }
+}
+
+fn is_before(moment: Moment, limit: Option<Moment>) -> bool
+    ensures { result ≡ holds (λ t. int_lt moment.micros t.micros) limit }
+{
+    match limit {
+        None => true,
+        Some(limit) => moment.micros < limit.micros,
+    }
+}
+
+fn is_after(moment: Moment, limit: Option<Moment>) -> bool
+    ensures { result ≡ holds (λ t. int_lt t.micros moment.micros) limit }
+{
+    match limit {
+        None => true,
+        Some(limit) => limit.micros < moment.micros,
+    }
+}
+
+// Whether an end is at a limit or after it.
+fn ends_from(end: Option<Moment>, limit: Option<Moment>) -> bool
+    ensures { result ≡ holds (λ t. ends_from t.micros (end_seen end)) limit }
+{
+    match (limit, end) {
+        (Some(limit), Some(end)) => limit.micros <= end.micros,
+        _ => true,
+    }
+}
+
+fn ends_before(end: Option<Moment>, limit: Option<Moment>) -> bool
+    ensures { result ≡ holds (λ t. ends_before t.micros (end_seen end)) limit }
+{
+    match (limit, end) {
+        (None, _) => true,
+        (Some(limit), Some(end)) => end.micros < limit.micros,
+        (Some(_), None) => false,
+    }
+}
+
+fn ends_after(end: Option<Moment>, limit: Option<Moment>) -> bool
+    ensures { result ≡ holds (λ t. ends_after t.micros (end_seen end)) limit }
+{
+    match (limit, end) {
+        (Some(limit), Some(end)) => limit.micros < end.micros,
+        _ => true,
+    }
+}
+
+// Whether an end is no later than another.
+fn ends_by(end: Option<Moment>, other: Option<Moment>) -> bool
+    ensures { result ≡ ends_by (end_seen end) (end_seen other) }
+{
+    match (end, other) {
+        (_, None) => true,
+        (None, Some(_)) => false,
+        (Some(end), Some(other)) => end.micros <= other.micros,
+    }
+}
+
+impl Epoch {
+    /// Whether the epoch meets the window of a selection.
+    pub fn meets(&self, selection: &Selection) -> bool
+        ensures { result ≡ meets selection.now self.now.start.micros (end_seen self.now.end) }
+    {
+        is_by(self.start, selection.end) && ends_from(self.end, selection.start)
+    }
+
+    /// Whether the epoch passes the four comparisons of the query.
+    pub fn passes(&self, query: &StationQuery) -> bool
+        ensures { result ≡ passes query.now self.now.start.micros (end_seen self.now.end) }
+    {
+        is_before(self.start, query.start_before)
+            && is_after(self.start, query.start_after)
+            && ends_before(self.end, query.end_before)
+            && ends_after(self.end, query.end_after)
+    }
+
+    /// Whether the epoch starts no later than another and ends no earlier.
+    pub fn contains(&self, inner: &Epoch) -> bool
+        ensures { result ≡ (int_le self.now.start.micros inner.now.start.micros && ends_by (end_seen inner.now.end) (end_seen self.now.end)) }
+    {
+        self.start.micros <= inner.start.micros && ends_by(inner.end, self.end)
+    }
+}
+
+// Whether a number is in its limits, these included.
+fn is_within(limits: &Limits2, number: Decimal) -> bool
+    ensures { result ≡ is_within_limits limits.now number.millionths }
+{
+    is_at_least(number, limits.least) && is_at_most(number, limits.most)
+}
+
+fn is_at_least(number: Decimal, least: Option<Decimal>) -> bool
+    ensures { result ≡ holds (λ d. int_le d.millionths number.millionths) least }
+{
+    match least {
+        None => true,
+        Some(least) => least.millionths <= number.millionths,
+    }
+}
+
+fn is_at_most(number: Decimal, most: Option<Decimal>) -> bool
+    ensures { result ≡ holds (λ d. int_le number.millionths d.millionths) most }
+{
+    match most {
+        None => true,
+        Some(most) => number.millionths <= most.millionths,
+    }
+}
+
+/// Whether a place is in the area, its limits included.
+pub fn is_in_area(area: &Area, latitude: Decimal, longitude: Decimal) -> bool
+    ensures { result ≡ is_place_in area.now latitude.millionths longitude.millionths }
+{
+    is_within(&area.latitude, latitude) && is_within(&area.longitude, longitude)
+}
+
+/// Whether the area has no limit.
+pub fn is_everywhere(area: &Area) -> bool
+    ensures { result ≡ is_everywhere area.now }
+{
+    area.latitude.least.is_none()
+        && area.latitude.most.is_none()
+        && area.longitude.least.is_none()
+        && area.longitude.most.is_none()
+}
