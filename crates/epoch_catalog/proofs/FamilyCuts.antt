@@ -10,9 +10,9 @@ use Rattle.std.proofs.lemmas.Bool.{true≢false}
 use Rattle.epochs.specs.declared.line.Line.{Line}
 use Rattle.epochs.specs.Views.{seen}
 use Rattle.epoch_catalog.specs.declared.families.Family.{Family}
-use Rattle.epoch_catalog.specs.Catalog.{IsCatalog}
-use Rattle.epoch_catalog.specs.KeyOrder.{parts_of, entry_cmp}
-use Rattle.epoch_catalog.specs.LiveLines.{says}
+use Rattle.epoch_rules.specs.Catalog.{IsCatalog}
+use Rattle.epoch_rules.specs.KeyOrder.{parts_of, entry_cmp}
+use Rattle.epoch_rules.specs.LiveLines.{says}
 use Rattle.epoch_catalog.specs.Families.{is_in, family_place}
 use Rattle.epoch_catalog.proofs.Cuts.{all_front, all_back, all_taken, all_dropped, all_mapped, filter_none, filter_whole, filter_joined, filter_mapped, halves}
 use Rattle.epoch_catalog.proofs.FamilyPlaces.{before_stays, within_stays, in_by_place}

@@ -16,10 +16,10 @@ use Rattle.epochs.specs.Kinds.{Text}
 use Rattle.epochs.specs.Lines.{Entry, entry}
 use Rattle.epoch_catalog.specs.declared.families.Family.{Family}
 use Rattle.epoch_catalog.specs.declared.families.Family.TheVariants as family
-use Rattle.epoch_catalog.specs.KeyOrder.{KeyParts, parts_of, parts_cmp, text_cmp, rank_of}
-use Rattle.epoch_catalog.specs.LiveLines.{is_statement, says}
+use Rattle.epoch_rules.specs.KeyOrder.{KeyParts, parts_of, parts_cmp, text_cmp, rank_of}
+use Rattle.epoch_rules.specs.LiveLines.{is_statement, says}
 use Rattle.epoch_catalog.specs.Families.{is_in, family_place}
-use Rattle.epoch_catalog.proofs.Orders.{total_on}
+use Rattle.epoch_rules.proofs.Orders.{total_on}
 
 -- the part of the order of keys by which a family stands together
 abbrev pub front_cmp : Family → KeyParts → KeyParts → Ordering

@@ -14,16 +14,16 @@ use Rattle.std.proofs.lemmas.List.Sorted.{IsPermutation-reverse, list_any-IsPerm
 use Rattle.std.proofs.lemmas.Map.Entries.{option_filter}
 use Rattle.std.proofs.lemmas.Map.Keys.{IsDistinct-IsPermutation}
 use Rattle.epochs.specs.Lines.{Entry}
-use Rattle.epoch_catalog.specs.declared.key_order.KeyView.{KeyView}
-use Rattle.epoch_catalog.specs.KeyOrder.{KeyParts, entry_cmp, have_one_key, parts_cmp}
-use Rattle.epoch_catalog.specs.KeyViews.{view_seen}
-use Rattle.epoch_catalog.specs.LiveLines.{is_replaced, last_lines}
+use Rattle.epoch_rules.specs.declared.key_order.KeyView.{KeyView}
+use Rattle.epoch_rules.specs.KeyOrder.{KeyParts, entry_cmp, have_one_key, parts_cmp}
+use Rattle.epoch_rules.specs.KeyViews.{view_seen}
+use Rattle.epoch_rules.specs.LiveLines.{is_replaced, last_lines}
 use Rattle.epoch_catalog.proofs.Cuts.{filter_joined}
-use Rattle.epoch_catalog.proofs.KeptCatalog.{eq_turned}
-use Rattle.epoch_catalog.proofs.LiveByKey.{first_last}
-use Rattle.epoch_catalog.proofs.Lookups.{any_first, any_last, first_of, last_of}
+use Rattle.epoch_rules.proofs.KeptCatalog.{eq_turned}
+use Rattle.epoch_rules.proofs.LiveByKey.{first_last}
+use Rattle.epoch_rules.proofs.Lookups.{any_first, any_last, first_of, last_of}
 use Rattle.epoch_catalog.proofs.Merged.{lasts_distinct, one_more, staying}
-use Rattle.epoch_catalog.proofs.Orders.{entries_total, parts_total}
+use Rattle.epoch_rules.proofs.Orders.{entries_total, parts_total}
 
 abbrev pub views_cmp : KeyView → KeyView → Ordering
 views_cmp a b = parts_cmp (view_seen a) (view_seen b)

@@ -7,12 +7,12 @@ use Rattle.std.specs.Ordering.{is_eq}
 use Rattle.std.proofs.lemmas.Cmp.{tied_itself}
 use Rattle.std.proofs.lemmas.Map.Entries.{option_filter}
 use Rattle.epochs.specs.Lines.{Entry}
-use Rattle.epoch_catalog.specs.KeyOrder.{entry_cmp}
+use Rattle.epoch_rules.specs.KeyOrder.{entry_cmp}
 use Rattle.epoch_catalog.specs.LiveLaw.{IsLive}
-use Rattle.epoch_catalog.specs.LiveLines.{says, is_replaced, live_lines}
-use Rattle.epoch_catalog.proofs.Lookups.{any_last, first_hit, first_of, is_equal, last_append, last_of, none_behind, sorted_rest}
-use Rattle.epoch_catalog.proofs.LiveByKey.{live_first, live_sorted, none_there}
-use Rattle.epoch_catalog.proofs.Orders.{entries_total}
+use Rattle.epoch_rules.specs.LiveLines.{says, is_replaced, live_lines}
+use Rattle.epoch_rules.proofs.Lookups.{any_last, first_hit, first_of, is_equal, last_append, last_of, none_behind, sorted_rest}
+use Rattle.epoch_rules.proofs.LiveByKey.{live_first, live_sorted, none_there}
+use Rattle.epoch_rules.proofs.Orders.{entries_total}
 
 behind_first : {X : Type 0} (y x : X) (ys : List X) → Contains ys x → Contains (y ∷ ys) x
 behind_first y x ys h = (suc h.0, (let lt = h.1 in omega arith), h.2)

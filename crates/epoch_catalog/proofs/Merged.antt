@@ -12,15 +12,15 @@ use Rattle.std.proofs.lemmas.Map.Keys.{IsDistinct-IsPermutation}
 use Rattle.list_laws.specs.InOrder.{in_order}
 use Rattle.list_laws.proofs.Keys.{sorted_in_order}
 use Rattle.epochs.specs.Lines.{Entry}
-use Rattle.epoch_catalog.specs.Catalog.{IsCatalog}
-use Rattle.epoch_catalog.specs.KeyOrder.{entry_cmp, have_one_key}
-use Rattle.epoch_catalog.specs.LiveLines.{says, is_replaced, last_lines, live_lines}
-use Rattle.epoch_catalog.proofs.KeptCatalog.{eq_turned}
-use Rattle.epoch_catalog.proofs.LiveByKey.{none_there}
+use Rattle.epoch_rules.specs.Catalog.{IsCatalog}
+use Rattle.epoch_rules.specs.KeyOrder.{entry_cmp, have_one_key}
+use Rattle.epoch_rules.specs.LiveLines.{says, is_replaced, last_lines, live_lines}
+use Rattle.epoch_rules.proofs.KeptCatalog.{eq_turned}
+use Rattle.epoch_rules.proofs.LiveByKey.{none_there}
 use Rattle.epoch_catalog.proofs.LiveMembers.{contains_found, found_contained}
-use Rattle.epoch_catalog.proofs.Lookups.{any_first, first_in_order, first_of, is_equal, none_behind, same_lists, sorted_rest}
-use Rattle.epoch_catalog.proofs.Orders.{entries_total}
-use Rattle.epoch_catalog.proofs.WithLine.{other_or}
+use Rattle.epoch_rules.proofs.Lookups.{any_first, first_in_order, first_of, is_equal, none_behind, same_lists, sorted_rest}
+use Rattle.epoch_rules.proofs.Orders.{entries_total}
+use Rattle.epoch_rules.proofs.WithLine.{other_or}
 
 -- the lines whose keys no new line has
 abbrev pub staying : List Entry → List Entry → List Entry

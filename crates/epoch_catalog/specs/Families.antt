@@ -7,8 +7,8 @@ use Rattle.epochs.specs.declared.kinds.Kind.TheVariants.{Net, Sta, Cha}
 use Rattle.epochs.specs.Lines.{Entry}
 use Rattle.epoch_catalog.specs.declared.families.Family.{Family}
 use Rattle.epoch_catalog.specs.declared.families.Family.TheVariants as family
-use Rattle.epoch_catalog.specs.KeyOrder.{KeyParts, parts_of, text_cmp, rank_of}
-use Rattle.epoch_catalog.specs.Rules.{is_line_of}
+use Rattle.epoch_rules.specs.KeyOrder.{KeyParts, parts_of, text_cmp, rank_of}
+use Rattle.epoch_rules.specs.Rules.{is_line_of}
 
 -- a line belongs to a family
 abbrev pub is_in : Family → Entry → Bool

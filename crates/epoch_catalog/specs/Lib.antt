@@ -1,14 +1,3 @@
-pub mod Catalog
-pub mod Endings
 pub mod Families
-pub mod Kept
-pub mod KeyOrder
-pub mod KeyViews
 pub mod LiveLaw
-pub mod LiveLines
-pub mod Losses
-pub mod MapLines
 pub mod Merging
-pub mod Neighbours
-pub mod Outlines
-pub mod Rules

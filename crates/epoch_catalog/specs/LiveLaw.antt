@@ -1,7 +1,7 @@
 -- Which lines are live, in the subject's words.
 use Rattle.std.specs.Prelude.{◌≡◌, true, false, List, ◌∷◌, ◌++◌}
 use Rattle.epochs.specs.Lines.{Entry}
-use Rattle.epoch_catalog.specs.LiveLines.{says, is_replaced}
+use Rattle.epoch_rules.specs.LiveLines.{says, is_replaced}
 
 -- one of the lines isn't a deletion, and no later line has its key
 pub record IsLive (lines : List Entry) (e : Entry) : Type 0 where

@@ -4,10 +4,10 @@ use Rattle.std.specs.List.{list_any}
 use Rattle.std.specs.Ordering.{is_eq}
 use Rattle.std.specs.BTreeSet.{BTreeSet}
 use Rattle.epochs.specs.Lines.{Entry}
-use Rattle.epoch_catalog.specs.declared.key_order.KeyView.{KeyView}
-use Rattle.epoch_catalog.specs.KeyOrder.{parts_cmp, parts_of}
-use Rattle.epoch_catalog.specs.KeyViews.{view_seen}
-use Rattle.epoch_catalog.specs.LiveLines.{is_replaced, last_lines}
+use Rattle.epoch_rules.specs.declared.key_order.KeyView.{KeyView}
+use Rattle.epoch_rules.specs.KeyOrder.{parts_cmp, parts_of}
+use Rattle.epoch_rules.specs.KeyViews.{view_seen}
+use Rattle.epoch_rules.specs.LiveLines.{is_replaced, last_lines}
 
 -- a key is the line's
 abbrev pub has_key : BTreeSet KeyView → Entry → Bool

@@ -1,12 +1,12 @@
 //! Lines that stand together in a catalog.
 ghost use Rattle.std.specs.Prelude.{◌≡◌, map, filter};
 ghost use Rattle.epochs.specs.Views.{seen};
-ghost use Rattle.epoch_catalog.specs.Catalog.{IsCatalog};
+ghost use Rattle.epoch_rules.specs.Catalog.{IsCatalog};
 ghost use Rattle.epoch_catalog.specs.Families.{is_in, family_place};
-ghost use Rattle.epoch_catalog.specs.KeyOrder.{parts_of};
+ghost use Rattle.epoch_rules.specs.KeyOrder.{parts_of};
 
-use crate::key_order::key_view;
 use channel_globs::Code;
+use epoch_rules::key_view;
 use epochs::Line;
 use std::cmp::Ordering;
 

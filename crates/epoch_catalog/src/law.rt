@@ -2,11 +2,11 @@
 ghost use Rattle.std.specs.Prelude.{◌≡◌, ◌↔◌, ◌++◌, List, Contains};
 ghost use Rattle.std.specs.List.Sorted.{IsStrictlySortedBy};
 ghost use Rattle.epochs.specs.Lines.{Entry};
-ghost use Rattle.epoch_catalog.specs.KeyOrder.{entry_cmp};
-ghost use Rattle.epoch_catalog.specs.LiveLines.{live_lines};
+ghost use Rattle.epoch_rules.specs.KeyOrder.{entry_cmp};
+ghost use Rattle.epoch_rules.specs.LiveLines.{live_lines};
 ghost use Rattle.epoch_catalog.specs.LiveLaw.{IsLive};
-ghost use Rattle.epoch_catalog.specs.Catalog.{IsCatalog};
-ghost use Rattle.epoch_catalog.specs.Kept.{AreKept};
+ghost use Rattle.epoch_rules.specs.Catalog.{IsCatalog};
+ghost use Rattle.epoch_rules.specs.Kept.{AreKept};
 
 /// What is live after some lines and then others is what is live after them all: lines that were replaced
 /// or deleted are needed no more.

@@ -5,14 +5,13 @@ ghost use Rattle.std.specs.List.Sorted.{IsPermutation, IsSortedBy, IsStrictlySor
 ghost use Rattle.std.specs.Ordering.{eq_by_cmp, is_lt};
 ghost use Rattle.epochs.specs.Lines.{Entry};
 ghost use Rattle.epochs.specs.Views.{seen};
-ghost use Rattle.epoch_catalog.specs.KeyOrder.{entry_cmp, have_one_key};
-ghost use Rattle.epoch_catalog.specs.LiveLines.{says, is_replaced, last_lines, live_lines};
-ghost use Rattle.epoch_catalog.specs.Catalog.{IsCatalog};
+ghost use Rattle.epoch_rules.specs.KeyOrder.{entry_cmp, have_one_key};
+ghost use Rattle.epoch_rules.specs.LiveLines.{says, is_replaced, last_lines, live_lines};
+ghost use Rattle.epoch_rules.specs.Catalog.{IsCatalog};
 ghost use Rattle.epoch_catalog.specs.Merging.{has_key};
 
 use crate::copying::copy_line;
-use crate::key_order::{KeyView, cmp_keys, key_view};
-use crate::relations::says;
+use epoch_rules::{KeyView, cmp_keys, key_view, says};
 use epochs::Line;
 use exact_time::OutOfMemory;
 use std::alloc::Global;

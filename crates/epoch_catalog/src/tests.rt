@@ -3,7 +3,8 @@ mod families;
 mod full;
 mod rules;
 
-use crate::{Catalog, CheckFault};
+use crate::Catalog;
+use epoch_rules::CheckFault;
 use epochs::{RevisionFault, read_revision};
 use exact_time::OutOfMemory;
 use std::alloc::Global;

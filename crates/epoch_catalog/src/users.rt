@@ -4,11 +4,11 @@ ghost use Rattle.std.specs.List.{list_any};
 ghost use Rattle.epochs.specs.Values.{user_line};
 ghost use Rattle.epochs.specs.Views.{seen};
 ghost use Rattle.epochs.specs.declared.kinds.Kind.TheVariants.{Usr};
-ghost use Rattle.epoch_catalog.specs.Catalog.{IsCatalog, is_user, user_place};
-ghost use Rattle.epoch_catalog.specs.KeyOrder.{parts_of};
-ghost use Rattle.epoch_catalog.specs.Rules.{is_line_of};
+ghost use Rattle.epoch_rules.specs.Catalog.{IsCatalog, is_user, user_place};
+ghost use Rattle.epoch_rules.specs.KeyOrder.{parts_of};
+ghost use Rattle.epoch_rules.specs.Rules.{is_line_of};
 
-use crate::key_order::key_view;
+use epoch_rules::key_view;
 use epochs::{Line, User};
 use std::cmp::Ordering;
 

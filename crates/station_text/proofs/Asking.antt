@@ -9,7 +9,7 @@ use Rattle.query_words.specs.declared.station.StationQuery.{StationQuery}
 use Rattle.epochs.specs.declared.kinds.Kind.TheVariants.{Net, Sta, Cha}
 use Rattle.epochs.specs.declared.line.Line.{Line}
 use Rattle.epochs.specs.Lines.{Entry}
-use Rattle.epoch_catalog.specs.Rules.{is_line_of, is_epoch}
+use Rattle.epoch_rules.specs.Rules.{is_line_of, is_epoch}
 use Rattle.station_text.specs.Asked.{is_asked_at, is_asked, asked_lines, selects_network, selects_station, selects_channel, is_eligible}
 use Rattle.station_text.specs.Windows.{line_passes}
 use Rattle.station_text.specs.Lines.{line_at}

@@ -14,8 +14,8 @@ use Rattle.epochs.specs.Lines.{Entry}
 use Rattle.epoch_catalog.specs.declared.families.Family.{Family}
 use Rattle.epoch_catalog.specs.declared.families.Family.TheVariants.{StationsOf, ChannelsOf}
 use Rattle.epoch_catalog.specs.Families.{is_in}
-use Rattle.epoch_catalog.specs.KeyOrder.{parts_of, text_cmp}
-use Rattle.epoch_catalog.specs.Rules.{is_line_of, contains}
+use Rattle.epoch_rules.specs.KeyOrder.{parts_of, text_cmp}
+use Rattle.epoch_rules.specs.Rules.{is_line_of, contains}
 use Rattle.station_text.specs.Windows.{line_meets, line_passes, is_in_area, is_everywhere}
 
 -- the live lines of a family

@@ -7,7 +7,7 @@ use Rattle.query_words.specs.declared.station.Limits2.{Limits2}
 use Rattle.query_words.specs.declared.station.StationQuery.{StationQuery}
 use Rattle.epochs.specs.Fields.{Value, number}
 use Rattle.epochs.specs.Lines.{Entry, end_of}
-use Rattle.epoch_catalog.specs.Rules.{epoch_start}
+use Rattle.epoch_rules.specs.Rules.{epoch_start}
 
 -- an end is at a moment or after it, before it, after it; an absent end is after every moment
 abbrev pub ends_from : ℤ → Option ℤ → Bool

@@ -1,6 +1,7 @@
 //! Answers over an archive with one network, one station and an event, and with two channels.
 use crate::answer;
-use epoch_catalog::{Catalog, CheckFault};
+use epoch_catalog::Catalog;
+use epoch_rules::CheckFault;
 use epochs::{RevisionFault, read_revision};
 use exact_time::{OutOfMemory, TextRefusal};
 use query_words::{QueryFault, StationQuery, station_get, station_post};

@@ -1,7 +1,7 @@
 //! The time and the place of an epoch against those that are asked for.
 ghost use Rattle.std.specs.Prelude.{◌≡◌, ◌&&◌, int_le, int_lt};
 ghost use Rattle.dataselect.specs.Query.{holds};
-ghost use Rattle.epoch_catalog.specs.Rules.{ends_by};
+ghost use Rattle.epoch_rules.specs.Rules.{ends_by};
 ghost use Rattle.station_text.specs.Windows.{ends_from, ends_before, ends_after, meets, passes, is_within_limits, is_place_in, is_everywhere};
 ghost use Rattle.station_text.specs.Columns.{end_seen};
 

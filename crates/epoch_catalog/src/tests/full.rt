@@ -1,6 +1,7 @@
 //! How many lines may be live.
 use super::Failure;
-use crate::{Catalog, CheckFault, Rule};
+use crate::Catalog;
+use epoch_rules::{CheckFault, Rule};
 use epochs::read_revision;
 use exact_time::{OutOfMemory, Text};
 use std::alloc::Global;

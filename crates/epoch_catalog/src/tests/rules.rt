@@ -1,6 +1,7 @@
 //! Which rule a line breaks first.
 use super::{ARCHIVE, Failure, check, take};
-use crate::{Catalog, CheckFault, Rule};
+use crate::Catalog;
+use epoch_rules::{CheckFault, Rule};
 use std::alloc::Global;
 use std::process::Abort;
 

@@ -1,4 +1,4 @@
-use Rattle.epoch_catalog.proofs.LiveByKey.{live_lines_go_on}
+use Rattle.epoch_rules.proofs.LiveByKey.{live_lines_go_on}
 use Rattle.epoch_catalog.proofs.law.live_lines_go_on.Goals as goal
 
 pub returns : goal.returns

@@ -1,4 +1,4 @@
-use Rattle.epoch_catalog.proofs.LiveByKey.{live_sorted}
+use Rattle.epoch_rules.proofs.LiveByKey.{live_sorted}
 use Rattle.epoch_catalog.proofs.LiveMembers.{live_members}
 use Rattle.epoch_catalog.proofs.law.live_lines_in_the_subjects_words.Goals as goal
 

@@ -1,6 +1,6 @@
 use Rattle.std.proofs.Common.{◌≡◌, map, filter, take}
 use Rattle.epochs.specs.Views.{seen}
-use Rattle.epoch_catalog.specs.LiveLines.{says}
+use Rattle.epoch_rules.specs.LiveLines.{says}
 use Rattle.epoch_catalog.proofs.merging.copy_said.Given as goal
 
 abbrev pub invariant-heads : goal.invariant-heads

@@ -1,7 +1,7 @@
 use Rattle.std.proofs.Common.{◌||◌, ap, ◌∙◌}
 use Rattle.std.specs.List.{list_any}
 use Rattle.std.specs.Ordering.{is_eq}
-use Rattle.epoch_catalog.specs.KeyOrder.{parts_cmp, parts_of}
+use Rattle.epoch_rules.specs.KeyOrder.{parts_cmp, parts_of}
 use Rattle.epoch_catalog.specs.Merging.{has_key}
 use Rattle.epoch_catalog.proofs.Heads.{is_view_of, key_inserted}
 use Rattle.epoch_catalog.proofs.merging.find_one.Goals as goal

@@ -3,7 +3,7 @@ use Rattle.std.proofs.lemmas.Fn.{always_returns_same}
 use Rattle.epochs.specs.Lines.{Entry}
 use Rattle.epochs.specs.Views.{seen}
 use Rattle.epochs.specs.declared.line.Line.{Line}
-use Rattle.epoch_catalog.specs.KeyOrder.{entry_cmp}
+use Rattle.epoch_rules.specs.KeyOrder.{entry_cmp}
 use Rattle.epoch_catalog.proofs.Heads.{search_found}
 use Rattle.epoch_catalog.proofs.merging.is_among.Goals as goal
 

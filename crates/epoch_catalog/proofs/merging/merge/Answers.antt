@@ -4,7 +4,7 @@ use Rattle.std.proofs.lemmas.List.{map-append}
 use Rattle.epochs.specs.Lines.{Entry}
 use Rattle.epochs.specs.Views.{seen}
 use Rattle.epochs.specs.declared.line.Line.{Line}
-use Rattle.epoch_catalog.specs.LiveLines.{says, is_replaced, last_lines}
+use Rattle.epoch_rules.specs.LiveLines.{says, is_replaced, last_lines}
 use Rattle.epoch_catalog.proofs.Heads.{filter_reversed, heads_distinct, stays}
 use Rattle.epoch_catalog.proofs.Merged.{merged, staying}
 use Rattle.epoch_catalog.proofs.merging.merge.Goals as goal

@@ -3,7 +3,7 @@ use Rattle.std.proofs.lemmas.Fn.{filter_same}
 use Rattle.epochs.specs.Lines.{Entry}
 use Rattle.epochs.specs.Views.{seen}
 use Rattle.epochs.specs.declared.line.Line.{Line}
-use Rattle.epoch_catalog.specs.LiveLines.{is_replaced}
+use Rattle.epoch_rules.specs.LiveLines.{is_replaced}
 use Rattle.epoch_catalog.proofs.Cuts.{filter_mapped}
 use Rattle.epoch_catalog.proofs.merging.remove_keys.Goals as goal
 

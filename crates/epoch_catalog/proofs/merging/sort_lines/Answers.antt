@@ -3,8 +3,8 @@ use Rattle.std.specs.Ordering.{is_lt}
 use Rattle.std.proofs.lemmas.Fn.{always_returns_same}
 use Rattle.std.proofs.lemmas.List.Sorted.{IsPermutation-map, ranks_by}
 use Rattle.epochs.specs.Views.{seen}
-use Rattle.epoch_catalog.specs.KeyOrder.{entry_cmp}
-use Rattle.epoch_catalog.proofs.Orders.{entries_total}
+use Rattle.epoch_rules.specs.KeyOrder.{entry_cmp}
+use Rattle.epoch_rules.proofs.Orders.{entries_total}
 use Rattle.epoch_catalog.proofs.merging.sort_lines.Goals as goal
 
 pub returns-clause-sorted : goal.returns-clause-sorted

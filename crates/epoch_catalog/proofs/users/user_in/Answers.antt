@@ -1,8 +1,8 @@
 use Rattle.std.proofs.Common.{rules, of_calls}
 use Rattle.std.proofs.lemmas.Fn.{always_returns_same}
 use Rattle.epochs.specs.Views.{seen}
-use Rattle.epoch_catalog.specs.Catalog.{user_place}
-use Rattle.epoch_catalog.specs.KeyOrder.{parts_of}
+use Rattle.epoch_rules.specs.Catalog.{user_place}
+use Rattle.epoch_rules.specs.KeyOrder.{parts_of}
 use Rattle.epoch_catalog.proofs.UsersFound.{no_user, places_rise, user_there}
 use Rattle.epoch_catalog.proofs.users.user_in.Goals as goal
 

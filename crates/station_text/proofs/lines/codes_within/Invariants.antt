@@ -3,7 +3,7 @@ use Rattle.std.specs.List.{filter_map}
 use Rattle.list_laws.specs.InOrder.{in_order}
 use Rattle.epochs.specs.declared.line.Line.TheVariants.{Net}
 use Rattle.epochs.specs.Views.{seen}
-use Rattle.epoch_catalog.specs.KeyOrder.{text_cmp}
+use Rattle.epoch_rules.specs.KeyOrder.{text_cmp}
 use Rattle.station_text.specs.Asked.{station_within}
 use Rattle.station_text.proofs.lines.codes_within.Given as goal
 

@@ -1,9 +1,9 @@
 use Rattle.std.proofs.Common.{List, map, ap, sym, subst}
 use Rattle.epochs.specs.Lines.{Entry}
 use Rattle.epochs.specs.Views.{seen}
-use Rattle.epoch_catalog.specs.Catalog.{IsCatalog}
-use Rattle.epoch_catalog.specs.Kept.{AreKept}
-use Rattle.epoch_catalog.proofs.KeptCatalog.{kept_lines, on_either}
+use Rattle.epoch_rules.specs.Catalog.{IsCatalog}
+use Rattle.epoch_rules.specs.Kept.{AreKept}
+use Rattle.epoch_rules.proofs.KeptCatalog.{kept_lines, on_either}
 use Rattle.epoch_catalog.proofs.catalog.Catalog.apply.Goals as goal
 
 pub invariant_of-self : goal.invariant_of-self

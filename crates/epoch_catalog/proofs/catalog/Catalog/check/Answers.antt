@@ -2,8 +2,8 @@ use Rattle.std.proofs.Common.{◌⊎◌, List, map, ap, subst, ◌∙◌, IsErrO
 use Rattle.list_laws.specs.Only.{IsOnly}
 use Rattle.epochs.specs.Lines.{Entry}
 use Rattle.epochs.specs.Views.{seen}
-use Rattle.epoch_catalog.specs.declared.rule.CheckFault.TheVariants.{OutOfMemory}
-use Rattle.epoch_catalog.specs.Kept.{AreKept, IsCheckFault}
+use Rattle.epoch_rules.specs.declared.rule.CheckFault.TheVariants.{OutOfMemory}
+use Rattle.epoch_rules.specs.Kept.{AreKept, IsCheckFault}
 use Rattle.epoch_catalog.proofs.catalog.Catalog.check.Goals as goal
 
 pub returns-clause-exact : goal.returns-clause-exact

@@ -1,0 +1,145 @@
+-- A user's grants begin at the first line from a key on.
+use Rattle.std.proofs.Common.{◌≡◌, ◌∙◌, true, ◌⊎◌, inl, inr, ℤ, ◌<ℤ◌, ◌≤ℤ◌, negsuc, ◌^◌, ◌-◌, List, [], ◌∷◌, filter, Option, Some, None, refl, sym, ap, arith, Ordering}
+use Rattle.std.specs.Prelude.{int_le}
+use Rattle.std.specs.Borrow.{Bor}
+use Rattle.std.specs.List.{list_any, AllByRecursion}
+use Rattle.std.specs.Str.{bytes_eq}
+use Rattle.std.specs.Ordering.{is_le, is_lt, nat_cmp, int_cmp, ordering_then, ordering_reverse}
+use Rattle.std.specs.declared.cmp.Ordering.TheVariants.{Less, Equal, Greater}
+use Rattle.std.specs.Cmp.{IsTotalOrder}
+use Rattle.std.specs.Cmp.Lexicographic.{nat_list_cmp_total}
+use Rattle.std.proofs.lemmas.Int.{ints}
+use Rattle.std.proofs.lemmas.Cmp.{int_ranked, tied_itself, then_total, nat_cmp_total}
+use Rattle.std.proofs.lemmas.Bool.{both_ways, and_parts}
+use Rattle.std.proofs.lemmas.Map.Lookups.{exact_unsigned, exact_bytes}
+use Rattle.epochs.specs.declared.kinds.Kind.TheVariants.{Grt}
+use Rattle.epochs.specs.declared.line.Line.{Line}
+use Rattle.epochs.specs.Kinds.{Text}
+use Rattle.epochs.specs.Lines.{Entry}
+use Rattle.epochs.specs.Views.{seen}
+use Rattle.epoch_rules.specs.Catalog.{IsCatalog}
+use Rattle.epoch_rules.specs.KeyOrder.{KeyParts, parts_of, rank_of, text_cmp, parts_cmp, entry_cmp}
+use Rattle.epoch_rules.specs.LiveLines.{says}
+use Rattle.epoch_rules.specs.Losses.{grants_key, is_grant_of}
+use Rattle.epoch_rules.specs.Neighbours.{is_from_key, IsFirstOf, passes_there}
+use Rattle.epoch_rules.specs.Rules.{is_line_of}
+use Rattle.epoch_rules.proofs.FamilyKeys.{kind_rank, rank_kind}
+use Rattle.epoch_rules.proofs.Grants.{same_text, text_itself}
+use Rattle.epoch_rules.proofs.KeptCatalog.{then_equal}
+use Rattle.epoch_rules.proofs.Members.{Has, all_has, any_has, both, has_any, same_bool}
+use Rattle.epoch_rules.proofs.Nearest.{first_there, from_first, none_there}
+use Rattle.epoch_rules.proofs.Orders.{parts_total, total_on}
+use Rattle.epoch_rules.proofs.Tidy.{Tidy}
+
+-- by kind and user
+head_cmp : KeyParts → KeyParts → Ordering
+head_cmp a b = ordering_then (nat_cmp a.rank b.rank) (text_cmp a.first b.first)
+
+tail_cmp : KeyParts → KeyParts → Ordering
+tail_cmp a b =
+    ordering_then (text_cmp a.second b.second)
+    (ordering_then (text_cmp a.third b.third)
+    (ordering_then (text_cmp a.fourth b.fourth)
+    (ordering_then (text_cmp a.fifth b.fifth) (int_cmp a.start b.start))))
+
+head_total : IsTotalOrder head_cmp
+unfolding head_cmp
+head_total = then_total (total_on (λ (p : KeyParts). p.rank) nat_cmp_total) (total_on (λ (p : KeyParts). p.first) nat_list_cmp_total)
+
+then_assoc : (a b c : Ordering) → ordering_then (ordering_then a b) c ≡ ordering_then a (ordering_then b c)
+then_assoc Less b c = refl
+then_assoc Equal b c = refl
+then_assoc Greater b c = refl
+
+by_head : (a b : KeyParts) → parts_cmp a b ≡ ordering_then (head_cmp a b) (tail_cmp a b)
+unfolding head_cmp tail_cmp
+by_head a b = sym (then_assoc (nat_cmp a.rank b.rank) (text_cmp a.first b.first) _)
+
+le_then : (a b : Ordering) → is_le a ≡ true → is_le b ≡ true → is_le (ordering_then a b) ≡ true
+le_then Less b h k = refl
+le_then Equal b h k = k
+le_then Greater b h k = h
+
+no_text : (t : Text) → is_le (text_cmp [] t) ≡ true
+no_text [] = refl
+no_text (c ∷ t) = refl
+
+le_cmp : (a b : ℤ) → int_le a b ≡ true → is_le (int_cmp a b) ≡ true
+le_cmp a b h =
+    elim (int_cmp a b) as (λ o. int_cmp a b ≡ o → is_le o ≡ true) [
+      | Less ↦ λ _. refl
+      | Equal ↦ λ _. refl
+      | Greater ↦ λ e. (let gt : b <ℤ a = int_ranked a b Greater (sym e) in absurd (too_far a b h gt))
+    ] refl
+  where
+    too_far : (a b : ℤ) → int_le a b ≡ true → b <ℤ a → ⊥
+    too_far a b h gt = let le : a ≤ℤ b = grind (arith, ints) in omega (arith, ints)
+
+split_head : (a b : Ordering) → is_le (ordering_then a b) ≡ true → (a ≡ Less) ⊎ (a ≡ Equal)
+split_head Less b h = inl refl
+split_head Equal b h = inr refl
+split_head Greater b h = cc
+
+module _ (live : List Entry) (is : IsCatalog live) (neat : AllByRecursion Tidy live) (user : Text) where
+  key : KeyParts
+  key = grants_key user
+
+  grant_head : (x : Entry) → is_grant_of user x ≡ true → head_cmp key (parts_of x) ≡ Equal
+  unfolding head_cmp key
+  grant_head x h =
+      let p = and_parts (is_line_of Grt x) (bytes_eq user (parts_of x).first) h in
+      (λ i. ordering_then (nat_cmp 5 (kind_rank Grt x p.0 i)) (text_cmp user (sym (same_text user (parts_of x).first p.1) i))) ∙ tied_itself head_total (grants_key user)
+
+  grant_from : (x : Entry) → Has live x → is_grant_of user x ≡ true → is_from_key key x ≡ true
+  unfolding key tail_cmp
+  grant_from x x_in h =
+      let p = and_parts (is_line_of Grt x) (bytes_eq user (parts_of x).first) h in
+      let late = (all_has Tidy live x neat x_in).late p.0 in
+      let q = parts_of x in
+      ap is_le (by_head (grants_key user) q ∙ ap (λ o. ordering_then o (tail_cmp (grants_key user) q)) (grant_head x h))
+      ∙ le_then (text_cmp [] q.second) (ordering_then (text_cmp [] q.third) (ordering_then (text_cmp [] q.fourth) (ordering_then (text_cmp [] q.fifth) (int_cmp (negsuc (2 ^ 63 - 1)) q.start)))) (no_text q.second)
+      (le_then (text_cmp [] q.third) (ordering_then (text_cmp [] q.fourth) (ordering_then (text_cmp [] q.fifth) (int_cmp (negsuc (2 ^ 63 - 1)) q.start))) (no_text q.third)
+      (le_then (text_cmp [] q.fourth) (ordering_then (text_cmp [] q.fifth) (int_cmp (negsuc (2 ^ 63 - 1)) q.start)) (no_text q.fourth)
+      (le_then (text_cmp [] q.fifth) (int_cmp (negsuc (2 ^ 63 - 1)) q.start) (no_text q.fifth) (le_cmp (negsuc (2 ^ 63 - 1)) q.start late))))
+
+  -- a line between the key and a grant is a grant of the user
+  between_grants : (n x : Entry) → Has live n → is_from_key key n ≡ true → is_grant_of user x ≡ true → entry_cmp n x ≡ Less → is_grant_of user n ≡ true
+  unfolding key head_cmp
+  between_grants n x n_in low h less =
+      let k = grants_key user in
+      let same = grant_head x h in
+      let head : head_cmp k (parts_of n) ≡ Equal =
+      elim (split_head (head_cmp k (parts_of n)) (tail_cmp k (parts_of n)) (sym (ap is_le (by_head k (parts_of n))) ∙ low)) [
+        | inl early ↦
+            (let later : head_cmp (parts_of x) (parts_of n) ≡ Less = sym (head_total.congr k (parts_of x) (parts_of n) same) ∙ early in
+            let wrong : entry_cmp x n ≡ Less = by_head (parts_of x) (parts_of n) ∙ ap (λ o. ordering_then o (tail_cmp (parts_of x) (parts_of n))) later in
+            let greater : entry_cmp x n ≡ Greater = parts_total.antisymm (parts_of x) (parts_of n) ∙ ap ordering_reverse less in
+            absurd (both_ways (is_lt (entry_cmp x n)) (ap is_lt greater) (ap is_lt wrong)))
+        | inr level ↦ level
+      ] in
+      let parts = then_equal (nat_cmp 5 (parts_of n).rank) (text_cmp user (parts_of n).first) head in
+      let rank : rank_of Grt ≡ (parts_of n).rank = exact_unsigned 5 (parts_of n).rank parts.0 in
+      let first : user ≡ (parts_of n).first = exact_bytes user (parts_of n).first parts.1 in
+      both (is_line_of Grt n) (bytes_eq user (parts_of n).first)
+      (rank_kind Grt n (all_has (λ l. says l ≡ true) live n is.states n_in) (sym rank))
+      (ap (bytes_eq user) (sym first) ∙ text_itself user)
+
+  pub near_grants : (there : Option (Bor Line)) → IsFirstOf (filter (is_from_key (grants_key user)) live) there → passes_there (is_grant_of user) there ≡ list_any (is_grant_of user) live
+  unfolding key
+  near_grants there first =
+      same_bool (passes_there (is_grant_of user) there) (list_any (is_grant_of user) live) (forth there first)
+      (λ h. let x = has_any (is_grant_of user) live h in back x.0 x.1 x.2 there first)
+    where
+      forth : (there : Option (Bor Line)) → IsFirstOf (filter (is_from_key (grants_key user)) live) there → passes_there (is_grant_of user) there ≡ true → list_any (is_grant_of user) live ≡ true
+      forth None first h = cc
+      forth (Some l) first h = any_has (is_grant_of user) live (seen l.now) (first_there live is.rises (is_from_key (grants_key user)) first.0 (seen l.now) first.1).0 h
+
+      back : (x : Entry) → Has live x → is_grant_of user x ≡ true → (there : Option (Bor Line)) → IsFirstOf (filter (is_from_key (grants_key user)) live) there → passes_there (is_grant_of user) there ≡ true
+      back x x_in h None first = absurd (none_there live is.rises (is_from_key (grants_key user)) x first x_in (grant_from x x_in h))
+      back x x_in h (Some l) first =
+          elim (from_first live is.rises (is_from_key (grants_key user)) first.0 (seen l.now) x first.1 x_in (grant_from x x_in h)) [
+            | inl here ↦ ap (is_grant_of user) here ∙ h
+            | inr later ↦
+                (let n = first_there live is.rises (is_from_key (grants_key user)) first.0 (seen l.now) first.1 in
+                between_grants (seen l.now) x n.0 n.1 h later)
+          ]

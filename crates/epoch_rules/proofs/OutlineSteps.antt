@@ -1,0 +1,71 @@
+-- The steps of an outline, over the lists that it stands for.
+use Rattle.std.proofs.Common.{◌≡◌, ◌∙◌, ◌+◌, ◌≤◌, Bool, true, false, cond, List, [], ◌∷◌, filter, map, length, drop, get_or, ℕ, ◌<◌, Some, Result, Ok, Err, OnOk, refl, sym, ap, subst, arith, add-one, drop-cons, Ordering}
+use Rattle.std.specs.Borrow.{Bor}
+use Rattle.std.specs.List.{list_any, AllByRecursion}
+use Rattle.std.specs.List.Sorted.{IsStrictlySortedBy}
+use Rattle.std.specs.Ordering.{is_eq}
+use Rattle.std.specs.BTreeMap.{insert_entry}
+use Rattle.std.specs.BTreeSet.{insert_key}
+use Rattle.std.specs.Map.{lookup, remove_entry}
+use Rattle.epochs.specs.Lines.{Entry}
+use Rattle.epochs.specs.Views.{seen}
+use Rattle.epochs.specs.declared.line.Line.{Line}
+use Rattle.epoch_rules.specs.declared.key_order.KeyView.{KeyView}
+use Rattle.epoch_rules.specs.KeyOrder.{parts_of, parts_cmp, entry_cmp, have_one_key}
+use Rattle.epoch_rules.specs.KeyViews.{view_seen}
+use Rattle.epoch_rules.specs.LiveLines.{says}
+use Rattle.epoch_rules.specs.Neighbours.{is_at_key, IsFirstOf}
+use Rattle.epoch_rules.specs.Rules.{with_line}
+use Rattle.epoch_rules.proofs.LinesBetween.{line_of_key}
+use Rattle.epoch_rules.proofs.LinesOfMap.{Pair, line_at, IsKeyed, put_line, cut_line}
+use Rattle.epoch_rules.proofs.Members.{Has}
+use Rattle.epoch_rules.proofs.Nearest.{first_there}
+use Rattle.epoch_rules.proofs.Orders.{entries_total}
+use Rattle.epoch_rules.proofs.Replaced.{replace_absent, taken_out}
+use Rattle.epoch_rules.proofs.WithLine.{others, with_line_is}
+
+pub on_ok : {X E : Type 0} {P : Type 0} (r : Result X E) → P → OnOk r P
+on_ok (Ok x) p = p
+on_ok (Err e) p = tt
+
+pub on_ok_both : {X E : Type 0} {P Q S : Type 0} (r : Result X E) → OnOk r P → OnOk r Q → (P → Q → S) → OnOk r S
+on_ok_both (Ok x) p q f = f p q
+on_ok_both (Err e) p q f = tt
+
+pub few_pass : (p : Entry → Bool) (xs : List Entry) → length (filter p xs) ≤ length xs
+few_pass p [] = omega arith
+few_pass p (x ∷ xs) =
+    let more = few_pass p xs in
+    elim (p x) as (λ b. length (cond b (x ∷ filter p xs) (filter p xs)) ≤ length (x ∷ xs)) [
+      | true ↦ omega (arith, more)
+      | false ↦ omega (arith, more)
+    ]
+
+pub as_long : (es : List Pair) → length (map line_at es) ≡ length es
+as_long [] = refl
+as_long (e ∷ es) = let more = as_long es in omega (arith, more)
+
+module _ (cmp : KeyView → KeyView → Ordering) (is : (a b : KeyView) → cmp a b ≡ parts_cmp (view_seen a) (view_seen b)) (es : List Pair) (all : AllByRecursion IsKeyed es) (k : KeyView) where
+  pub put_lines : (v : Bor Line) → view_seen k ≡ parts_of (seen v.now) → list_any (have_one_key (seen v.now)) (map line_at es) ≡ false
+      → map line_at (insert_entry cmp es k v) ≡ insert_key entry_cmp (map line_at es) (seen v.now)
+  put_lines v here absent = put_line cmp is es k v all here ∙ replace_absent entry_cmp (seen v.now) (map line_at es) absent
+
+  pub cut_lines : (e : Entry) → view_seen k ≡ parts_of e → IsStrictlySortedBy entry_cmp (map line_at es) → map line_at (remove_entry (λ q. is_eq (cmp k q)) es) ≡ others e (map line_at es)
+  cut_lines e here up = cut_line cmp is es k e all here ∙ sym (taken_out entries_total e (map line_at es) up)
+
+  pub old_line : (e : Entry) (old : Bor Line) → view_seen k ≡ parts_of e → IsStrictlySortedBy entry_cmp (map line_at es) → Some old ≡ lookup (λ q. is_eq (cmp k q)) es
+      → Has (map line_at es) (seen old.now) × (have_one_key e (seen old.now) ≡ true)
+  old_line e old here up found =
+      let lines = map line_at es in
+      let first : IsFirstOf (filter (is_at_key (parts_of e)) lines) (Some old) =
+      subst (IsFirstOf (filter (is_at_key (parts_of e)) lines)) (sym found) (subst (λ p. IsFirstOf (filter (is_at_key p) lines) (lookup (λ q. is_eq (cmp k q)) es)) here (line_of_key cmp is k es all)) in
+      first_there lines up (is_at_key (parts_of e)) first.0 (seen old.now) first.1
+
+-- a line at its place in a list
+pub line_here : (lines : List Line) (i : ℕ) (line : Line) → i < length lines → line ≡ get_or lines i line → map seen (drop i lines) ≡ seen line ∷ map seen (drop (i + 1) lines)
+line_here lines i line within at = rw (drop-cons lines i line within, ← at, add-one i) refl
+
+-- with a line, by whether it is a deletion
+pub taken : (live : List Entry) (e : Entry) (b : Bool) → IsStrictlySortedBy entry_cmp live → AllByRecursion (λ l. says l ≡ true) live → says e ≡ b
+    → with_line live e ≡ cond b (insert_key entry_cmp (others e live) e) (others e live)
+taken live e b up all h = with_line_is live e up all ∙ ap (λ c. cond c (insert_key entry_cmp (others e live) e) (others e live)) h

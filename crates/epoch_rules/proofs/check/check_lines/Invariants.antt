@@ -1,0 +1,11 @@
+use Rattle.std.proofs.Common.{◌≡◌, ◌+◌, map, drop}
+use Rattle.epochs.specs.Views.{seen}
+use Rattle.epoch_rules.specs.Catalog.{IsCatalog}
+use Rattle.epoch_rules.specs.Outlines.{outlined, IsOutline}
+use Rattle.epoch_rules.proofs.OneCheck.{first_broken}
+use Rattle.epoch_rules.proofs.check.check_lines.Given as goal
+
+abbrev pub invariant-lines : goal.invariant-lines
+invariant-lines l =
+    IsOutline l.outline × IsCatalog (outlined l.outline)
+    × (first_broken (l.index + 1) (outlined l.outline) (map seen (drop l.index l.lines)) ≡ first_broken 1 (map seen l.live) (map seen l.lines))

@@ -1,0 +1,85 @@
+-- The ends of stations and channels, in order for each network and station.
+use Rattle.std.specs.Prelude.{◌≡◌, ℕ, ℤ, pos, Bool, not, ◌&&◌, ◌||◌, List, [], Option, is_none, if◌then◌else◌}
+use Rattle.std.specs.List.{list_any}
+use Rattle.std.specs.declared.cmp.Ordering.{Ordering}
+use Rattle.std.specs.Ordering.{nat_cmp, int_cmp, bool_cmp, ordering_then, is_eq}
+use Rattle.std.specs.declared.ops.Bound.TheVariants.{Included, Excluded}
+use Rattle.std.specs.BTreeMap.Range.{range_contains}
+use Rattle.std.specs.BTreeSet.{BTreeSet}
+use Rattle.epochs.specs.declared.kinds.Kind.TheVariants.{Sta, Cha}
+use Rattle.epochs.specs.Kinds.{Text}
+use Rattle.epochs.specs.Lines.{Entry, end_of}
+use Rattle.epoch_rules.specs.declared.endings.Ending.{Ending}
+use Rattle.epoch_rules.specs.KeyOrder.{KeyParts, parts_of, text_cmp, parts_cmp, or_zero}
+use Rattle.epoch_rules.specs.KeyViews.{view_seen, view_of}
+use Rattle.epoch_rules.specs.Rules.{is_line_of}
+
+-- the end of an epoch in a container: the epoch's kind, the container's codes, the end, and the epoch's key
+pub record EndingParts : Type 0 where
+  pub rank : ℕ
+  pub first : Text
+  pub second : Text
+  pub forever : Bool
+  pub micros : ℤ
+  pub key : KeyParts
+
+abbrev pub ending : ℕ → (first second : Text) → Option ℤ → KeyParts → EndingParts
+ending rank first second stop key = record {
+  rank = rank;
+  first = first;
+  second = second;
+  forever = is_none stop;
+  micros = or_zero stop;
+  key = key;
+}
+
+abbrev pub ending_seen : Ending → EndingParts
+ending_seen e = record {
+  rank = e.rank;
+  first = e.first.now;
+  second = e.second.now;
+  forever = e.forever;
+  micros = e.micros;
+  key = view_seen e.key;
+}
+
+-- a line that lies in a container
+abbrev pub is_child : Entry → Bool
+is_child e = is_line_of Sta e || is_line_of Cha e
+
+abbrev pub ending_of : Entry → EndingParts
+ending_of e =
+    ending (parts_of e).rank (parts_of e).first (if is_line_of Cha e then (parts_of e).second else []) (end_of e.values) (parts_of e)
+
+-- a key behind all keys
+abbrev pub last_key : KeyParts
+last_key = view_of 255 [] [] [] [] [] (pos 0)
+
+-- behind all of a container's epochs of a kind that end by some end, and before the others
+abbrev pub cut : ℕ → (first second : Text) → Option ℤ → EndingParts
+cut rank first second stop = ending rank first second stop last_key
+
+abbrev pub ending_cmp : EndingParts → EndingParts → Ordering
+ending_cmp a b =
+    ordering_then (nat_cmp a.rank b.rank)
+    (ordering_then (text_cmp a.first b.first)
+    (ordering_then (text_cmp a.second b.second)
+    (ordering_then (bool_cmp a.forever b.forever)
+    (ordering_then (int_cmp a.micros b.micros) (parts_cmp a.key b.key)))))
+
+-- the set holds the ends of those lines that lie in containers, and no others
+abbrev pub HoldsEnds : BTreeSet Ending → List Entry → Type 0
+HoldsEnds ends lines =
+    (test : EndingParts → Bool) → list_any (λ q. test (ending_seen q)) ends.keys ≡ list_any (λ e. is_child e && test (ending_of e)) lines
+
+-- the set holds one more end, or all others
+abbrev pub EndsWith : BTreeSet Ending → EndingParts → BTreeSet Ending → Type 0
+EndsWith ends e more = (test : EndingParts → Bool) → list_any (λ q. test (ending_seen q)) more.keys ≡ (test e || list_any (λ q. test (ending_seen q)) ends.keys)
+
+abbrev pub EndsWithout : BTreeSet Ending → EndingParts → BTreeSet Ending → Type 0
+EndsWithout ends e fewer =
+    (test : EndingParts → Bool) → list_any (λ q. test (ending_seen q)) fewer.keys ≡ list_any (λ q. not (is_eq (ending_cmp e (ending_seen q))) && test (ending_seen q)) ends.keys
+
+-- an end stands at a cut or after it, and before another
+abbrev pub is_between : EndingParts → EndingParts → EndingParts → Bool
+is_between low high p = range_contains ending_cmp (Included low) (Excluded high) p

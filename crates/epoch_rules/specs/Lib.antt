@@ -1,0 +1,11 @@
+pub mod Catalog
+pub mod Endings
+pub mod Kept
+pub mod KeyOrder
+pub mod KeyViews
+pub mod LiveLines
+pub mod Losses
+pub mod MapLines
+pub mod Neighbours
+pub mod Outlines
+pub mod Rules

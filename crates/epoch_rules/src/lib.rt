@@ -1,0 +1,35 @@
+//! Which revision lines of a data centre are live, and the rules that a new line has to keep over them.
+//!
+//! What the crate above uses: [`check_lines`] answers Ok exactly where lines keep the rules, each over the
+//! live lines with those before it (`AreKept` of `specs/Kept.antt`), and else the first line that breaks a
+//! rule, and the first rule that it breaks (`IsFirstBroken`). It asks that the live lines are a catalog
+//! (`IsCatalog` of `specs/Catalog.antt`): keys rise, no line is a deletion, no epoch overlaps another of its
+//! codes, and each line has what it rests on.
+//!
+//! Which lines are live is defined in `specs/LiveLines.antt`, and the order of keys in
+//! `specs/KeyOrder.antt` ([`cmp_keys`], [`key_view`]). The rules stand in `specs/Rules.antt`, in the order in
+//! which they are tested; [`Rule`] names them. Lines are seen without memory (`specs/Views.antt` of the crate
+//! `epochs`).
+//!
+//! `src/check.rt` holds each line against an outline of the live lines (`src/outline.rt`): the lines by their
+//! keys, the ends of stations and channels in order, and how many operators there are. Since the live lines are
+//! a catalog, the lines next to a key decide (`src/judging.rt`, `src/neighbours.rt`, `src/endings.rt`), so that
+//! a line costs a logarithm.
+#![tactic(auto)]
+
+mod check;
+mod check_law;
+mod endings;
+mod judging;
+mod key_order;
+mod neighbours;
+mod outline;
+mod relations;
+mod rule;
+mod spans;
+
+pub use check::check_lines;
+pub use check_law::lines_are_kept_or_one_is_the_first_broken;
+pub use key_order::{KeyView, cmp_keys, key_view};
+pub use relations::says;
+pub use rule::{CheckFault, Rule};

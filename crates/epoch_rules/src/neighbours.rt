@@ -1,0 +1,65 @@
+//! Lines by their keys, and which stand next to a key.
+ghost use Rattle.std.specs.Prelude.{filter};
+ghost use Rattle.epoch_rules.specs.KeyViews.{view_seen};
+ghost use Rattle.epoch_rules.specs.Neighbours.{is_at_key, is_below_key, is_up_to_key, is_above_key, is_from_key, IsLastOf, IsFirstOf};
+ghost use Rattle.epoch_rules.specs.MapLines.{lines_in, AreKeyed};
+
+use crate::key_order::KeyView;
+use epochs::Line;
+use std::collections::BTreeMap;
+use std::ops::Bound;
+
+/// Lines by their keys.
+pub type LinesByKey<'a> = BTreeMap<KeyView<'a>, &'a Line>;
+
+/// The line of a key.
+pub fn line_at<'a>(lines: &LinesByKey<'a>, key: KeyView<'a>) -> Option<&'a Line>
+    requires { AreKeyed lines.now }
+    ensures { IsFirstOf (filter (is_at_key (view_seen key.entry)) (lines_in lines.now)) result }
+{
+    lines.get(&key).copied()
+}
+
+/// The last line before a key.
+pub fn last_before<'a>(lines: &LinesByKey<'a>, key: KeyView<'a>) -> Option<&'a Line>
+    requires { AreKeyed lines.now }
+    ensures { IsLastOf (filter (is_below_key (view_seen key.entry)) (lines_in lines.now)) result }
+{
+    match lines.range(..key).next_back() {
+        Some((_, line)) => Some(*line),
+        None => None,
+    }
+}
+
+/// The last line whose key isn't after that one.
+pub fn last_up_to<'a>(lines: &LinesByKey<'a>, key: KeyView<'a>) -> Option<&'a Line>
+    requires { AreKeyed lines.now }
+    ensures { IsLastOf (filter (is_up_to_key (view_seen key.entry)) (lines_in lines.now)) result }
+{
+    match lines.range(..=key).next_back() {
+        Some((_, line)) => Some(*line),
+        None => None,
+    }
+}
+
+/// The first line after a key.
+pub fn first_after<'a>(lines: &LinesByKey<'a>, key: KeyView<'a>) -> Option<&'a Line>
+    requires { AreKeyed lines.now }
+    ensures { IsFirstOf (filter (is_above_key (view_seen key.entry)) (lines_in lines.now)) result }
+{
+    match lines.range((Bound::Excluded(key), Bound::Unbounded)).next() {
+        Some((_, line)) => Some(*line),
+        None => None,
+    }
+}
+
+/// The first line whose key isn't before that one.
+pub fn first_from<'a>(lines: &LinesByKey<'a>, key: KeyView<'a>) -> Option<&'a Line>
+    requires { AreKeyed lines.now }
+    ensures { IsFirstOf (filter (is_from_key (view_seen key.entry)) (lines_in lines.now)) result }
+{
+    match lines.range(key..).next() {
+        Some((_, line)) => Some(*line),
+        None => None,
+    }
+}

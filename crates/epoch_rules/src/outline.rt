@@ -1,0 +1,88 @@
+//! The live lines while others are checked over them.
+ghost use Rattle.std.specs.Prelude.{◌≡◌, Bool, true, false, not, length, map, filter, IfOk, OnOk};
+ghost use Rattle.std.specs.List.{list_any};
+ghost use Rattle.std.specs.List.Sorted.{IsStrictlySortedBy};
+ghost use Rattle.std.specs.BTreeSet.{insert_key};
+ghost use Rattle.epochs.specs.Views.{seen};
+ghost use Rattle.epoch_rules.specs.Catalog.{IsCatalog};
+ghost use Rattle.epoch_rules.specs.KeyOrder.{entry_cmp, have_one_key};
+ghost use Rattle.epoch_rules.specs.Outlines.{outlined, IsOutline};
+ghost use Rattle.epoch_rules.specs.Rules.{with_line};
+
+use crate::endings::{Ending, forget_end, keep_end};
+use crate::key_order::key_view;
+use crate::neighbours::LinesByKey;
+use crate::relations::{count_operator, says};
+use epochs::Line;
+use exact_time::OutOfMemory;
+use std::alloc::Global;
+use std::collections::{BTreeMap, BTreeSet};
+
+/// The live lines by their keys, with those taken so far, how many of them are operators, and the ends of
+/// those that lie in containers. After an error it is of no use.
+#[derive(Drop)]
+pub struct Outline<'a> {
+    pub lines: LinesByKey<'a>,
+    pub operators: usize,
+    pub ends: BTreeSet<Ending<'a>>,
+}
+
+impl<'a> Outline<'a> {
+    // Puts in a line whose key isn't there.
+    fn put(&mut self, line: &'a Line) -> Result<(), OutOfMemory>
+        requires outline { IsOutline self.old }
+        requires absent { list_any (have_one_key (seen line.now)) (outlined self.old) ≡ false }
+        ensures lines { OnOk result (outlined self.new ≡ insert_key entry_cmp (outlined self.old) (seen line.now)) }
+        ensures outline { OnOk result (IsOutline self.new) }
+    {
+        self.lines.insert(key_view(line), line)?;
+        // A map's length fits, and so does the number of operators in it.
+        let _ = self.lines.len();
+        self.operators += count_operator(line);
+        keep_end(&mut self.ends, line)
+    }
+
+    // Takes out the line of a key, if it is there.
+    fn remove(&mut self, line: &'a Line)
+        requires outline { IsOutline self.old }
+        requires rises { IsStrictlySortedBy entry_cmp (outlined self.old) }
+        ensures lines { outlined self.new ≡ filter (λ l. not (have_one_key (seen line.now) l)) (outlined self.old) }
+        ensures outline { IsOutline self.new }
+    {
+        if let Some(old) = self.lines.remove(&key_view(line)) {
+            self.operators -= count_operator(old);
+            forget_end(&mut self.ends, old);
+        }
+    }
+
+    /// Takes a line: it stands in the place of that of its key, or a deletion takes that out.
+    pub fn take(&mut self, line: &'a Line) -> Result<(), OutOfMemory>
+        requires outline { IsOutline self.old }
+        requires catalog { IsCatalog (outlined self.old) }
+        ensures lines { OnOk result (outlined self.new ≡ with_line (outlined self.old) (seen line.now)) }
+        ensures outline { OnOk result (IsOutline self.new) }
+    {
+        self.remove(line);
+        if says(line) {
+            return self.put(line);
+        }
+        Ok(())
+    }
+
+    /// The live lines of a catalog.
+    pub fn of(alloc: Global, live: &'a [Line]) -> Result<Outline<'a>, OutOfMemory>
+        requires { IsCatalog (map seen live.now) }
+        ensures lines { IfOk result (λ outline. outlined outline ≡ map seen live.now) }
+        ensures outline { IfOk result IsOutline }
+    {
+        let mut outline = Outline {
+            lines: BTreeMap::new(alloc),
+            operators: 0,
+            ends: BTreeSet::new(alloc),
+        };
+        'lines: for line in live {
+            outline.put(line)?;
+        }
+        Ok(outline)
+    }
+}

@@ -1,0 +1,86 @@
+//! When the epochs of lines start and end, and how two of them lie.
+ghost use Rattle.std.specs.Prelude.{◌≡◌, option_map};
+ghost use Rattle.epochs.specs.Lines.{end_of};
+ghost use Rattle.epochs.specs.Views.{seen};
+ghost use Rattle.epoch_rules.specs.Rules.{epoch_start, is_before_end, ends_by, overlap, contains};
+
+use crate::key_order::key_view;
+use epochs::Line;
+use exact_time::Moment;
+
+/// When a line's epoch starts, in microseconds; an event's time, and 0 where there is neither.
+pub fn start(line: &Line) -> i64
+    ensures { result ≡ epoch_start (seen line.now) }
+{
+    match line {
+        Line::Net(net) => net.start.micros,
+        Line::Sta(sta) => sta.start.micros,
+        Line::Cha(cha) => cha.start.micros,
+        Line::Evt(event) => event.time.micros,
+        Line::Rst(rst) => rst.start.micros,
+        Line::Grt(grt) => grt.start.micros,
+        Line::Usr(_) => 0,
+        Line::Del(_) => key_view(line).start,
+    }
+}
+
+// When an epoch ends, in microseconds.
+fn micros(end: Option<Moment>) -> Option<i64>
+    ensures { result ≡ option_map (λ moment. moment.micros) end }
+{
+    match end {
+        Some(moment) => Some(moment.micros),
+        None => None,
+    }
+}
+
+/// When a line's epoch ends, in microseconds, if it does.
+pub fn end(line: &Line) -> Option<i64>
+    ensures { result ≡ end_of (seen line.now).values }
+{
+    match line {
+        Line::Net(net) => micros(net.end),
+        Line::Sta(sta) => micros(sta.end),
+        Line::Cha(cha) => micros(cha.end),
+        Line::Evt(_) => None,
+        Line::Rst(rst) => micros(rst.end),
+        Line::Grt(grt) => micros(grt.end),
+        Line::Usr(_) => None,
+        Line::Del(_) => None,
+    }
+}
+
+// Whether a moment is before an end; an absent end is after every moment.
+fn is_before_end(moment: i64, end: Option<i64>) -> bool
+    ensures { result ≡ is_before_end moment end }
+{
+    match end {
+        Some(end) => moment < end,
+        None => true,
+    }
+}
+
+// Whether an end is no later than another.
+fn ends_by(end: Option<i64>, other: Option<i64>) -> bool
+    ensures { result ≡ ends_by end other }
+{
+    match (end, other) {
+        (_, None) => true,
+        (None, Some(_)) => false,
+        (Some(end), Some(other)) => end <= other,
+    }
+}
+
+/// Whether each of two epochs starts before the other's end.
+pub fn overlap(a: &Line, b: &Line) -> bool
+    ensures { result ≡ overlap (seen a.now) (seen b.now) }
+{
+    is_before_end(start(a), end(b)) && is_before_end(start(b), end(a))
+}
+
+/// Whether the first epoch starts no later and ends no earlier than the second.
+pub fn contains(outer: &Line, inner: &Line) -> bool
+    ensures { result ≡ contains (seen outer.now) (seen inner.now) }
+{
+    start(outer) <= start(inner) && ends_by(end(inner), end(outer))
+}
