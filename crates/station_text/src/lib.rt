@@ -13,9 +13,11 @@
 mod answers;
 mod asked;
 mod columns;
+mod law;
 mod lines;
 #[cfg(test)]
 mod tests;
 mod windows;
 
 pub use answers::answer;
+pub use law::answers_are_in_order;
