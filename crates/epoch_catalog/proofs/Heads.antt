@@ -1,16 +1,14 @@
--- The last new lines of their keys: the set of keys, a search among them, and what stays of live lines.
-use Rattle.std.proofs.Common.{◌≡◌, ℕ, zero, suc, ◌<◌, Bool, true, false, not, cond, ◌||◌, List, [], ◌∷◌, ◌++◌, filter, map, reverse, length, get_or, Option, Some, None, Result, Ok, Err, refl, sym, ap, subst, ◌∙◌, arith, inl, inr, Ordering}
+-- The last new lines of their keys: the set of keys, that the lines' keys differ, and the same lines in the
+-- order of keys.
+use Rattle.std.proofs.Common.{◌≡◌, ℕ, zero, suc, ◌+◌, ◌<◌, Bool, true, false, cond, ◌||◌, List, [], ◌∷◌, filter, map, reverse, length, get_or, Option, Some, None, refl, sym, ap, subst, ◌∙◌, arith, Ordering}
 use Rattle.std.specs.Option.{is_some}
-use Rattle.std.specs.Result.{is_ok}
-use Rattle.std.specs.List.{list_any, IsDistinct}
-use Rattle.std.specs.List.Sorted.{IsBinarySearchResult, IsPermutation, IsSearchInRange, IsSortedBy, IsStrictlySortedBy}
+use Rattle.std.specs.List.{list_any, AllByRecursion, IsDistinct}
+use Rattle.std.specs.List.Sorted.{IsPermutation, IsSortedBy, IsStrictlySortedBy}
 use Rattle.std.specs.Ordering.{is_eq, is_lt, eq_by_cmp, match_ordering, ordering_reverse}
 use Rattle.std.specs.declared.cmp.Ordering.TheVariants.{Less, Equal, Greater}
 use Rattle.std.specs.BTreeSet.{insert_key}
-use Rattle.std.proofs.lemmas.Bool.{cases_lt}
 use Rattle.std.proofs.lemmas.Cmp.{alike_right}
-use Rattle.std.proofs.lemmas.List.{append-nil, reverse-append}
-use Rattle.std.proofs.lemmas.List.Sorted.{IsPermutation-reverse, list_any-IsPermutation, searchable_from_sorted}
+use Rattle.std.proofs.lemmas.List.Sorted.{Contains-permutation, IsPermutation-reverse, IsPermutation-trans, list_any-IsPermutation}
 use Rattle.std.proofs.lemmas.Map.Entries.{option_filter}
 use Rattle.std.proofs.lemmas.Map.Keys.{IsDistinct-IsPermutation}
 use Rattle.epochs.specs.Lines.{Entry}
@@ -18,27 +16,19 @@ use Rattle.epoch_rules.specs.declared.key_order.KeyView.{KeyView}
 use Rattle.epoch_rules.specs.KeyOrder.{KeyParts, entry_cmp, have_one_key, parts_cmp}
 use Rattle.epoch_rules.specs.KeyViews.{view_seen}
 use Rattle.epoch_rules.specs.LiveLines.{is_replaced, last_lines}
-use Rattle.epoch_catalog.proofs.Cuts.{filter_joined}
 use Rattle.epoch_rules.proofs.KeptCatalog.{eq_turned}
-use Rattle.epoch_rules.proofs.LiveByKey.{first_last}
-use Rattle.epoch_rules.proofs.Lookups.{any_first, any_last, first_of, last_of}
-use Rattle.epoch_catalog.proofs.Merged.{lasts_distinct, one_more, staying}
+use Rattle.epoch_rules.proofs.LiveByKey.{first_last, none_there}
+use Rattle.epoch_rules.proofs.Lookups.{any_first, first_of, is_equal, last_of, last_sorted}
+use Rattle.epoch_rules.proofs.Members.{or_same, or_swap}
 use Rattle.epoch_rules.proofs.Orders.{entries_total, parts_total}
+use Rattle.epoch_catalog.proofs.LiveMembers.{contains_found, found_contained}
+use Rattle.std.proofs.lemmas.Bool.{or_parts}
 
 abbrev pub views_cmp : KeyView → KeyView → Ordering
 views_cmp a b = parts_cmp (view_seen a) (view_seen b)
 
 abbrev pub is_view_of : KeyParts → KeyView → Bool
 is_view_of p v = is_eq (parts_cmp p (view_seen v))
-
-or_same : (a b : Bool) → (a || b) ≡ (a || (a || b))
-or_same true b = refl
-or_same false b = refl
-
-or_left : (a b c : Bool) → (a || (b || c)) ≡ (b || (a || c))
-or_left true true c = refl
-or_left true false c = refl
-or_left false b c = refl
 
 -- a key put into a set is found besides
 pub key_inserted : (p : KeyParts) (keys : List KeyView) (k : KeyView) → list_any (is_view_of p) (insert_key views_cmp keys k) ≡ (is_view_of p k || list_any (is_view_of p) keys)
@@ -50,60 +40,16 @@ key_inserted p (x ∷ keys) k =
       | Equal ↦ λ e.
           (let same : test x ≡ test k = ap is_eq (sym (alike_right parts_total (view_seen k) (view_seen x) p e)) in
           ap (λ b. b || list_any test keys) same ∙ or_same (test k) (list_any test keys) ∙ ap (λ b. test k || (b || list_any test keys)) (sym same))
-      | Greater ↦ λ _. ap (λ b. test x || b) (key_inserted p keys k) ∙ or_left (test x) (test k) (list_any test keys)
+      | Greater ↦ λ _. ap (λ b. test x || b) (key_inserted p keys k) ∙ or_swap (test x) (test k) (list_any test keys)
     ] refl
-
-not_below : (o : Ordering) → o ≡ Less → is_lt (ordering_reverse o) ≡ false
-not_below Less h = refl
-not_below Equal h = (cc)
-not_below Greater h = (cc)
-
--- a strictly sorted list is sorted
-pub sorted_of : {X : Type 0} (f : X → Entry) (xs : List X) → IsStrictlySortedBy entry_cmp (map f xs) → IsSortedBy (λ a b. is_lt (entry_cmp (f a) (f b))) xs
-unfolding IsStrictlySortedBy
-sorted_of f [] up k d low high = absurd (omega arith)
-sorted_of f (x ∷ []) up k d low high = absurd (omega arith)
-sorted_of f (x ∷ y ∷ xs) up zero d low high = ap is_lt (entries_total.antisymm (f y) (f x)) ∙ not_below (entry_cmp (f x) (f y)) up.0.0
-sorted_of f (x ∷ y ∷ xs) up (suc k) d low high =
-    subst (λ n. is_lt (entry_cmp (f (get_or (x ∷ y ∷ xs) n d)) (f (get_or (y ∷ xs) k d))) ≡ false) (sym (one_more k)) (sorted_of f (y ∷ xs) up.1 k d (omega arith) (omega arith))
 
 pub none_at : {X : Type 0} (p : X → Bool) (xs : List X) → ((k : ℕ) (d : X) → k < length xs → p (get_or xs k d) ≡ false) → list_any p xs ≡ false
 none_at p [] h = refl
 none_at p (x ∷ xs) h = ap (λ b. b || list_any p xs) (h zero x (omega arith)) ∙ none_at p xs (λ k d lt. h (suc k) d (omega arith))
 
-some_at : {X : Type 0} (p : X → Bool) (xs : List X) (k : ℕ) (d : X) → k < length xs → p (get_or xs k d) ≡ true → list_any p xs ≡ true
-some_at p [] k d lt h = absurd (omega arith)
-some_at p (x ∷ xs) zero d lt h = ap (λ b. b || list_any p xs) h
-some_at p (x ∷ xs) (suc k) d lt h =
-    elim (p x) as (λ b. (b || list_any p xs) ≡ true) [
-      | true ↦ refl
-      | false ↦ some_at p xs k d (omega arith) h
-    ]
-
 pub any_mapped : {X : Type 0} (f : X → Entry) (p : Entry → Bool) (xs : List X) → list_any p (map f xs) ≡ list_any (λ x. p (f x)) xs
 any_mapped f p [] = refl
 any_mapped f p (x ∷ xs) = ap (λ b. p (f x) || b) (any_mapped f p xs)
-
-some_held : {X : Type 0} (p : X → Bool) (xs : List X) (i : ℕ) → i < length xs → ((d : X) → p (get_or xs i d) ≡ true) → list_any p xs ≡ true
-some_held p [] i lt h = absurd (omega arith)
-some_held p (x ∷ xs) i lt h = some_at p (x ∷ xs) i x lt (h x)
-
--- a search by halves finds a line of the key exactly where there is one
-pub search_found : {X : Type 0} (f : X → Entry) (xs : List X) (e : Entry) (r : Result ℕ ℕ) → IsStrictlySortedBy entry_cmp (map f xs) → IsSearchInRange r (length xs) → IsBinarySearchResult (λ y. entry_cmp (f y) e) xs r
-    → is_ok r ≡ list_any (have_one_key e) (map f xs)
-search_found {X} f xs e (Ok i) up bound found =
-    let test : X → Bool = λ x. have_one_key e (f x) in
-    sym (any_mapped f (have_one_key e) xs ∙ some_held test xs i bound (λ d. eq_turned entries_total e (f (get_or xs i d)) ∙ ap is_eq (found d)))
-search_found {X} f xs e (Err i) up bound none =
-    let test : X → Bool = λ x. have_one_key e (f x) in
-    let parts = none (searchable_from_sorted entries_total f xs e (sorted_of f xs up)) in
-    let miss : (k : ℕ) (d : X) → k < length xs → test (get_or xs k d) ≡ false = λ k d lt.
-    eq_turned entries_total e (f (get_or xs k d))
-    ∙ elim (cases_lt k i) as (λ _. is_eq (entry_cmp (f (get_or xs k d)) e) ≡ false) [
-      | inl low ↦ ap is_eq (parts.0 k d (omega arith) low)
-      | inr high ↦ ap is_eq (parts.1 k d high lt)
-    ] in
-    sym (any_mapped f (have_one_key e) xs ∙ none_at test xs miss)
 
 filter_true : (xs : List Entry) → filter (λ x. true) xs ≡ xs
 filter_true [] = refl
@@ -113,17 +59,36 @@ option_true : (a : Option Entry) → option_filter (λ x. true) a ≡ a
 option_true None = refl
 option_true (Some x) = refl
 
--- the last lines have the keys of all
-any_of_lasts : (l : Entry) (lines : List Entry) → is_replaced (last_lines lines) l ≡ is_replaced lines l
-any_of_lasts l lines =
-    any_first entry_cmp l (last_lines lines)
-    ∙ ap is_some (ap (first_of entry_cmp l) (sym (filter_true (last_lines lines))) ∙ first_last (λ x. true) l lines ∙ option_true (last_of entry_cmp l lines))
-    ∙ sym (any_last entry_cmp l lines)
+none_among : (p : Entry → Bool) (q : Entry) (xs : List Entry) → list_any (have_one_key q) xs ≡ false → AllByRecursion (λ y. have_one_key q y ≡ false) (filter p (last_lines xs))
+none_among p q [] none = tt
+none_among p q (x ∷ xs) none =
+    let parts = or_parts (have_one_key q x) (list_any (have_one_key q) xs) none in
+    let rest = none_among p q xs parts.1 in
+    let lasts = last_lines xs in
+    elim (is_replaced xs x) as (λ b. AllByRecursion (λ y. have_one_key q y ≡ false) (filter p (cond b lasts (x ∷ lasts)))) [
+      | true ↦ rest
+      | false ↦
+          elim (p x) as (λ b. AllByRecursion (λ y. have_one_key q y ≡ false) (cond b (x ∷ filter p lasts) (filter p lasts))) [
+            | true ↦ (parts.0, rest)
+            | false ↦ rest
+          ]
+    ]
 
-heads_have : (lines heads : List Entry) (l : Entry) → IsPermutation (reverse (last_lines lines)) heads → is_replaced heads l ≡ is_replaced lines l
-heads_have lines heads l moved =
-    let lasts = last_lines lines in
-    sym (list_any-IsPermutation (have_one_key l) lasts (reverse lasts) (IsPermutation-reverse lasts) ∙ list_any-IsPermutation (have_one_key l) (reverse lasts) heads moved) ∙ any_of_lasts l lines
+-- the last lines have different keys
+pub lasts_distinct : (p : Entry → Bool) (xs : List Entry) → IsDistinct (eq_by_cmp entry_cmp) (filter p (last_lines xs))
+unfolding IsDistinct
+lasts_distinct p [] = tt
+lasts_distinct p (x ∷ xs) =
+    let rest = lasts_distinct p xs in
+    let lasts = last_lines xs in
+    elim (is_replaced xs x) as (λ b. is_replaced xs x ≡ b → IsDistinct (eq_by_cmp entry_cmp) (filter p (cond b lasts (x ∷ lasts)))) [
+      | true ↦ λ _. rest
+      | false ↦ λ none.
+          elim (p x) as (λ b. IsDistinct (eq_by_cmp entry_cmp) (cond b (x ∷ filter p lasts) (filter p lasts))) [
+            | true ↦ (none_among p x xs none, rest)
+            | false ↦ rest
+          ]
+    ] refl
 
 pub heads_distinct : (lines heads : List Entry) → heads ≡ reverse (last_lines lines) → IsDistinct (eq_by_cmp entry_cmp) heads
 heads_distinct lines heads is =
@@ -131,21 +96,59 @@ heads_distinct lines heads is =
     let apart = subst (λ ls. IsDistinct (eq_by_cmp entry_cmp) ls) (filter_true lasts) (lasts_distinct (λ x. true) lines) in
     subst (λ ls. IsDistinct (eq_by_cmp entry_cmp) ls) (sym is) (IsDistinct-IsPermutation (eq_by_cmp entry_cmp) (eq_turned entries_total) lasts (reverse lasts) (IsPermutation-reverse lasts) apart)
 
-filter_alike : (p q : Entry → Bool) (xs : List Entry) → ((x : Entry) → p x ≡ q x) → filter p xs ≡ filter q xs
-filter_alike p q [] same = refl
-filter_alike p q (x ∷ xs) same = ap (λ b. cond b (x ∷ filter p xs) (filter p xs)) (same x) ∙ ap (λ ys. cond (q x) (x ∷ ys) ys) (filter_alike p q xs same)
+less_from : (o : Ordering) → is_lt (ordering_reverse o) ≡ false → is_eq o ≡ false → o ≡ Less
+less_from Less h k = refl
+less_from Equal h k = (cc)
+less_from Greater h k = (cc)
 
--- what stays where the keys of the heads are removed
-pub stays : (lines heads live : List Entry) → IsPermutation (reverse (last_lines lines)) heads → filter (λ l. not (is_replaced heads l)) live ≡ staying lines live
-stays lines heads live moved = filter_alike (λ l. not (is_replaced heads l)) (λ l. not (is_replaced lines l)) live (λ l. ap not (heads_have lines heads l moved))
+all_further : (x y : Entry) (ys : List Entry) → entry_cmp x y ≡ Less → AllByRecursion (λ z. entry_cmp y z ≡ Less) ys → AllByRecursion (λ z. entry_cmp x z ≡ Less) ys
+all_further x y [] h all = tt
+all_further x y (z ∷ ys) h all = (entries_total.trans x y z h all.0, all_further x y ys h all.1)
 
-pub filter_reversed : (p : Entry → Bool) (xs : List Entry) → filter p (reverse xs) ≡ reverse (filter p xs)
-filter_reversed p [] = refl
-filter_reversed p (x ∷ xs) =
-    ap (filter p) (reverse-append (x ∷ []) xs)
-    ∙ filter_joined p (reverse xs) (x ∷ [])
-    ∙ ap (λ ys. ys ++ filter p (x ∷ [])) (filter_reversed p xs)
-    ∙ elim (p x) as (λ b. reverse (filter p xs) ++ cond b (x ∷ []) [] ≡ reverse (cond b (x ∷ filter p xs) (filter p xs))) [
-      | true ↦ sym (reverse-append (x ∷ []) (filter p xs))
-      | false ↦ append-nil (reverse (filter p xs))
-    ]
+pub one_more : (k : ℕ) → suc k + 1 ≡ suc (k + 1)
+one_more k = omega arith
+
+-- a sorted list of different keys is strictly sorted
+pub strictly : {X : Type 0} (f : X → Entry) (xs : List X) → IsSortedBy (λ x y. is_lt (entry_cmp (f x) (f y))) xs → IsDistinct (eq_by_cmp entry_cmp) (map f xs) → IsStrictlySortedBy entry_cmp (map f xs)
+unfolding IsStrictlySortedBy IsDistinct
+strictly f [] sorted apart = tt
+strictly f (x ∷ []) sorted apart = (tt, tt)
+strictly {X} f (x ∷ y ∷ xs) sorted apart =
+    let up : IsSortedBy (λ x y. is_lt (entry_cmp (f x) (f y))) (y ∷ xs) = λ k d low high. subst (λ n. is_lt (entry_cmp (f (get_or (x ∷ y ∷ xs) n d)) (f (get_or (y ∷ xs) k d))) ≡ false) (one_more k) (sorted (suc k) d (omega arith) (omega arith)) in
+    let rest = strictly f (y ∷ xs) up apart.1 in
+    let back : is_lt (entry_cmp (f y) (f x)) ≡ false = sorted zero x (omega arith) (omega arith) in
+    let turned : is_lt (ordering_reverse (entry_cmp (f x) (f y))) ≡ false = ap is_lt (sym (entries_total.antisymm (f y) (f x))) ∙ back in
+    let less : entry_cmp (f x) (f y) ≡ Less = less_from (entry_cmp (f x) (f y)) turned apart.0.0 in
+    ((less, all_further (f x) (f y) (map f xs) less rest.0), rest)
+
+pub first_alike : (q k : Entry) (xs : List Entry) → entry_cmp q k ≡ Equal → first_of entry_cmp q xs ≡ first_of entry_cmp k xs
+first_alike q k [] e = refl
+first_alike q k (x ∷ xs) e =
+    ap (λ a. cond (is_eq (entry_cmp q x)) (Some x) a) (first_alike q k xs e) ∙ ap (λ r. cond (is_eq r) (Some x) (first_of entry_cmp k xs)) (entries_total.congr q k x e)
+
+pub found_alike : (q x : Entry) (xs : List Entry) → first_of entry_cmp q xs ≡ Some x → entry_cmp q x ≡ Equal
+found_alike q x [] h = (cc)
+found_alike q x (y ∷ ys) h =
+    elim (is_eq (entry_cmp q y)) as (λ b. is_eq (entry_cmp q y) ≡ b → cond b (Some y) (first_of entry_cmp q ys) ≡ Some x → entry_cmp q x ≡ Equal) [
+      | true ↦ λ t k. (let one : y ≡ x = cc in ap (entry_cmp q) (sym one) ∙ is_equal (entry_cmp q y) t)
+      | false ↦ λ _ k. found_alike q x ys k
+    ] refl h
+
+moved : (q : Entry) (xs ys : List Entry) → IsPermutation xs ys → IsStrictlySortedBy entry_cmp ys → (a : Option Entry) → first_of entry_cmp q xs ≡ a → first_of entry_cmp q ys ≡ a
+moved q xs ys same up (Some x) is =
+    let there = Contains-permutation xs ys x same (contains_found q x xs is) in
+    first_alike q x ys (found_alike q x xs is) ∙ found_contained x ys up there
+moved q xs ys same up None is =
+    let none = sym (any_first entry_cmp q ys) ∙ sym (list_any-IsPermutation (have_one_key q) xs ys same) ∙ any_first entry_cmp q xs ∙ ap is_some is in
+    none_there (first_of entry_cmp q ys) none
+
+-- of each key the heads, put in order, have the last line
+pub heads_last : (q : Entry) (lines heads : List Entry) → IsPermutation (reverse (last_lines lines)) heads → IsStrictlySortedBy entry_cmp heads → last_of entry_cmp q heads ≡ last_of entry_cmp q lines
+heads_last q lines heads same up =
+    let lasts = last_lines lines in
+    let all = IsPermutation-trans lasts (reverse lasts) heads (IsPermutation-reverse lasts) same in
+    last_sorted entries_total q heads up
+    ∙ moved q lasts heads all up (first_of entry_cmp q lasts) refl
+    ∙ ap (first_of entry_cmp q) (sym (filter_true lasts))
+    ∙ first_last (λ x. true) q lines
+    ∙ option_true (last_of entry_cmp q lines)

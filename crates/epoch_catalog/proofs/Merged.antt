@@ -1,142 +1,275 @@
--- Lines that stay, and the last lines of new keys, put in order: the live lines.
-use Rattle.std.proofs.Common.{◌≡◌, ℕ, zero, suc, ◌+◌, Bool, true, false, not, cond, ◌||◌, List, [], ◌∷◌, ◌++◌, filter, map, reverse, get_or, Option, Some, None, refl, sym, ap, subst, ◌∙◌, arith, Ordering}
-use Rattle.std.specs.Option.{is_some}
-use Rattle.std.specs.List.{list_any, AllByRecursion, IsDistinct}
-use Rattle.std.specs.List.Sorted.{IsPermutation, IsSortedBy, IsStrictlySortedBy}
-use Rattle.std.specs.Ordering.{is_eq, is_lt, eq_by_cmp, ordering_reverse}
+-- Live lines and heads, which are the last new lines of their keys, merged from the last key to the first.
+use Rattle.std.proofs.Common.{◌≡◌, Bool, true, false, cond, ◌||◌, List, [], ◌∷◌, ◌++◌, filter, map, reverse, Option, Some, None, refl, sym, ap, subst, ◌∙◌, append_assoc, Ordering, if◌then◌else◌}
+use Rattle.std.specs.Option.{option_or, is_some}
+use Rattle.std.specs.List.{list_any, AllByRecursion}
+use Rattle.std.specs.List.Sorted.{IsPermutation, IsStrictlySortedBy}
+use Rattle.std.specs.Ordering.{is_eq, is_gt, ordering_reverse}
 use Rattle.std.specs.declared.cmp.Ordering.TheVariants.{Less, Equal, Greater}
-use Rattle.std.proofs.lemmas.Cmp.{tied_itself}
+use Rattle.std.specs.BTreeSet.{insert_key}
+use Rattle.std.proofs.lemmas.Cmp.{alike_right}
+use Rattle.std.proofs.lemmas.List.{append-nil, map-append, reverse-append, reverse-reverse}
 use Rattle.std.proofs.lemmas.List.Folds.{list_any-append}
-use Rattle.std.proofs.lemmas.List.Sorted.{Contains-permutation, IsPermutation-append_right, IsPermutation-reverse, IsPermutation-trans, list_any-IsPermutation}
-use Rattle.std.proofs.lemmas.Map.Keys.{IsDistinct-IsPermutation}
-use Rattle.list_laws.specs.InOrder.{in_order}
-use Rattle.list_laws.proofs.Keys.{sorted_in_order}
+use Rattle.std.proofs.lemmas.Map.Entries.{option_filter}
+use Rattle.list_laws.proofs.Keys.{all_in_order}
 use Rattle.epochs.specs.Lines.{Entry}
-use Rattle.epoch_rules.specs.Catalog.{IsCatalog}
 use Rattle.epoch_rules.specs.KeyOrder.{entry_cmp, have_one_key}
 use Rattle.epoch_rules.specs.LiveLines.{says, is_replaced, last_lines, live_lines}
-use Rattle.epoch_rules.proofs.KeptCatalog.{eq_turned}
-use Rattle.epoch_rules.proofs.LiveByKey.{none_there}
-use Rattle.epoch_catalog.proofs.LiveMembers.{contains_found, found_contained}
-use Rattle.epoch_rules.proofs.Lookups.{any_first, first_in_order, first_of, is_equal, none_behind, same_lists, sorted_rest}
+use Rattle.epoch_rules.proofs.LastLine.{append_one, below_middle, none_below, put_last}
+use Rattle.epoch_rules.proofs.LiveByKey.{live_again, live_first, live_lines_go_on, live_says, live_sorted, none_there}
+use Rattle.epoch_rules.proofs.Lookups.{any_last, is_equal, last_alike, last_append, last_of, or_none, same_lists}
 use Rattle.epoch_rules.proofs.Orders.{entries_total}
-use Rattle.epoch_rules.proofs.WithLine.{other_or}
+use Rattle.epoch_rules.proofs.Replaced.{sorted_head, sorted_tail}
+use Rattle.epoch_rules.proofs.WithLine.{no_other_gone, with_line_is}
+use Rattle.epoch_catalog.specs.Merging.{last_place, AreMoved, AreBefore}
+use Rattle.epoch_catalog.proofs.Heads.{heads_last}
 
--- the lines whose keys no new line has
-abbrev pub staying : List Entry → List Entry → List Entry
-staying lines live = filter (λ l. not (is_replaced lines l)) live
+all_fronts : (P : Entry → Type 0) (xs ys : List Entry) → AllByRecursion P (xs ++ ys) → AllByRecursion P xs
+all_fronts P [] ys all = tt
+all_fronts P (x ∷ xs) ys all = (all.0, all_fronts P xs ys all.1)
 
--- of live lines and new ones, those that stay
-pub last_of_both : (live lines : List Entry) → IsStrictlySortedBy entry_cmp live → AllByRecursion (λ l. says l ≡ true) live
-    → filter says (last_lines (live ++ lines)) ≡ staying lines live ++ filter says (last_lines lines)
-last_of_both [] lines up all = refl
-last_of_both (e ∷ live) lines up all =
-    let alone = any_first entry_cmp e live ∙ ap is_some (none_behind entries_total e e live up (is_equal (entry_cmp e e) (here e))) in
-    let test = list_any-append (have_one_key e) live lines ∙ ap (λ b. b || is_replaced lines e) alone in
-    let rest = last_of_both live lines (sorted_rest entries_total e live up) all.1 in
-    let lasts = last_lines (live ++ lines) in
-    ap (λ b. filter says (cond b lasts (e ∷ lasts))) test
-    ∙ elim (is_replaced lines e) as (λ b. filter says (cond b lasts (e ∷ lasts)) ≡ cond (not b) (e ∷ staying lines live) (staying lines live) ++ filter says (last_lines lines)) [
-      | true ↦ rest
-      | false ↦ ap (λ b. cond b (e ∷ filter says lasts) (filter says lasts)) all.0 ∙ ap (λ ls. e ∷ ls) rest
-    ]
-  where
-    here : (e : Entry) → is_eq (entry_cmp e e) ≡ true
-    here e = ap is_eq (tied_itself entries_total e)
+all_backs : (P : Entry → Type 0) (xs ys : List Entry) → AllByRecursion P (xs ++ ys) → AllByRecursion P ys
+all_backs P [] ys all = all
+all_backs P (x ∷ xs) ys all = all_backs P xs ys all.1
 
-none_among : (p : Entry → Bool) (q : Entry) (xs : List Entry) → list_any (have_one_key q) xs ≡ false → AllByRecursion (λ y. have_one_key q y ≡ false) (filter p (last_lines xs))
-none_among p q [] none = tt
-none_among p q (x ∷ xs) none =
-    let parts = other_or (have_one_key q x) (list_any (have_one_key q) xs) none in
-    let rest = none_among p q xs parts.1 in
-    let lasts = last_lines xs in
-    elim (is_replaced xs x) as (λ b. AllByRecursion (λ y. have_one_key q y ≡ false) (filter p (cond b lasts (x ∷ lasts)))) [
-      | true ↦ rest
-      | false ↦
-          elim (p x) as (λ b. AllByRecursion (λ y. have_one_key q y ≡ false) (cond b (x ∷ filter p lasts) (filter p lasts))) [
-            | true ↦ (parts.0, rest)
-            | false ↦ rest
-          ]
+all_both : (P : Entry → Type 0) (xs ys : List Entry) → AllByRecursion P xs → AllByRecursion P ys → AllByRecursion P (xs ++ ys)
+all_both P [] ys all more = more
+all_both P (x ∷ xs) ys all more = (all.0, all_both P xs ys all.1 more)
+
+sorted_front : (xs ys : List Entry) → IsStrictlySortedBy entry_cmp (xs ++ ys) → IsStrictlySortedBy entry_cmp xs
+unfolding IsStrictlySortedBy
+sorted_front [] ys up = tt
+sorted_front (x ∷ xs) ys up = (all_fronts (λ y. entry_cmp x y ≡ Less) xs ys up.0, sorted_front xs ys up.1)
+
+all_lower : (e top : Entry) (xs : List Entry) → entry_cmp e top ≡ Less → AllByRecursion (λ x. entry_cmp x e ≡ Less) xs → AllByRecursion (λ x. entry_cmp x top ≡ Less) xs
+all_lower e top [] less all = tt
+all_lower e top (x ∷ xs) less all = (entries_total.trans x e top all.0 less, all_lower e top xs less all.1)
+
+all_lasts : (P : Entry → Type 0) (xs : List Entry) → AllByRecursion P xs → AllByRecursion P (last_lines xs)
+all_lasts P [] all = tt
+all_lasts P (x ∷ xs) all =
+    elim (is_replaced xs x) as (λ b. AllByRecursion P (cond b (last_lines xs) (x ∷ last_lines xs))) [
+      | true ↦ all_lasts P xs all.1
+      | false ↦ (all.0, all_lasts P xs all.1)
     ]
 
--- the last lines have different keys
-pub lasts_distinct : (p : Entry → Bool) (xs : List Entry) → IsDistinct (eq_by_cmp entry_cmp) (filter p (last_lines xs))
-unfolding IsDistinct
-lasts_distinct p [] = tt
-lasts_distinct p (x ∷ xs) =
-    let rest = lasts_distinct p xs in
-    let lasts = last_lines xs in
-    elim (is_replaced xs x) as (λ b. is_replaced xs x ≡ b → IsDistinct (eq_by_cmp entry_cmp) (filter p (cond b lasts (x ∷ lasts)))) [
-      | true ↦ λ _. rest
-      | false ↦ λ none.
-          elim (p x) as (λ b. IsDistinct (eq_by_cmp entry_cmp) (cond b (x ∷ filter p lasts) (filter p lasts))) [
-            | true ↦ (none_among p x xs none, rest)
-            | false ↦ rest
-          ]
+all_filter : (P : Entry → Type 0) (p : Entry → Bool) (xs : List Entry) → AllByRecursion P xs → AllByRecursion P (filter p xs)
+all_filter P p [] all = tt
+all_filter P p (x ∷ xs) all =
+    elim (p x) as (λ b. AllByRecursion P (cond b (x ∷ filter p xs) (filter p xs))) [
+      | true ↦ (all.0, all_filter P p xs all.1)
+      | false ↦ all_filter P p xs all.1
+    ]
+
+-- a line greater than all others becomes the last
+line_last : (xs : List Entry) (e : Entry) → AllByRecursion (λ x. entry_cmp x e ≡ Less) xs → live_lines (xs ++ e ∷ []) ≡ live_lines xs ++ (if says e then e ∷ [] else [])
+line_last xs e below =
+    let live = live_lines xs in
+    let all = all_in_order entry_cmp (λ x. entry_cmp x e ≡ Less) [] (filter says (last_lines xs)) tt (all_filter (λ x. entry_cmp x e ≡ Less) says (last_lines xs) (all_lasts (λ x. entry_cmp x e ≡ Less) xs below)) in
+    sym (live_lines_go_on xs (e ∷ []))
+    ∙ with_line_is live e (live_sorted xs) (live_says xs)
+    ∙ ap (λ ls. cond (says e) (insert_key entry_cmp ls e) ls) (no_other_gone e live (none_below live e all))
+    ∙ elim (says e) as (λ b. cond b (insert_key entry_cmp live e) live ≡ live ++ cond b (e ∷ []) []) [
+      | true ↦ put_last live e all
+      | false ↦ sym (append-nil live)
+    ]
+
+-- lists with the same last line of each key
+same_live : (xs ys : List Entry) → ((q : Entry) → last_of entry_cmp q xs ≡ last_of entry_cmp q ys) → live_lines xs ≡ live_lines ys
+same_live xs ys same =
+    same_lists entries_total (live_lines xs) (live_lines ys) (live_sorted xs) (live_sorted ys)
+    (λ q. live_first q xs ∙ ap (option_filter says) (same q) ∙ sym (live_first q ys))
+
+-- a line behind lines of other keys instead of before them
+last_turned : (q : Entry) (xs : List Entry) (x : Entry) (ys : List Entry) → AllByRecursion (λ y. entry_cmp y x ≡ Less) ys → last_of entry_cmp q (xs ++ x ∷ ys) ≡ last_of entry_cmp q ((xs ++ ys) ++ x ∷ [])
+last_turned q xs x ys below =
+    let front = last_of entry_cmp q xs in
+    let back = last_of entry_cmp q ys in
+    last_append entry_cmp q xs (x ∷ ys)
+    ∙ elim (is_eq (entry_cmp q x)) as (λ b. is_eq (entry_cmp q x) ≡ b → option_or (option_or back (cond b (Some x) None)) front ≡ option_or (cond b (Some x) None) (option_or back front)) [
+      | true ↦ λ t.
+          (let none = last_alike entries_total q x ys (is_equal (entry_cmp q x) t) ∙ none_there (last_of entry_cmp x ys) (sym (any_last entry_cmp x ys) ∙ none_below ys x below) in
+          ap (λ a. option_or (option_or a (Some x)) front) none)
+      | false ↦ λ _. ap (λ a. option_or a front) (or_none back)
+    ] refl
+    ∙ sym (last_append entry_cmp q (xs ++ ys) (x ∷ []) ∙ ap (option_or (cond (is_eq (entry_cmp q x)) (Some x) None)) (last_append entry_cmp q xs ys))
+
+one_moved : (xs : List Entry) (x : Entry) (ys : List Entry) → AllByRecursion (λ y. entry_cmp y x ≡ Less) xs → says x ≡ true → AllByRecursion (λ y. entry_cmp y x ≡ Less) ys
+    → live_lines ((xs ++ x ∷ []) ++ ys) ≡ live_lines (xs ++ ys) ++ x ∷ []
+one_moved xs x ys below said under =
+    ap live_lines (append_one xs x ys)
+    ∙ same_live (xs ++ x ∷ ys) ((xs ++ ys) ++ x ∷ []) (λ q. last_turned q xs x ys under)
+    ∙ line_last (xs ++ ys) x (all_both (λ y. entry_cmp y x ≡ Less) xs ys below under)
+    ∙ ap (λ b. live_lines (xs ++ ys) ++ cond b (x ∷ []) []) said
+
+-- the last live lines, where they are greater than all others and than the heads
+all_moved : (xs more ys : List Entry) → IsStrictlySortedBy entry_cmp (xs ++ more) → AllByRecursion (λ x. says x ≡ true) more → AllByRecursion (λ x. AllByRecursion (λ y. entry_cmp y x ≡ Less) ys) more
+    → live_lines ((xs ++ more) ++ ys) ≡ live_lines (xs ++ ys) ++ more
+all_moved xs [] ys up said under = ap (λ ls. live_lines (ls ++ ys)) (append-nil xs) ∙ sym (append-nil (live_lines (xs ++ ys)))
+all_moved xs (x ∷ more) ys up said under =
+    let joined = append_one xs x more in
+    ap (λ ls. live_lines (ls ++ ys)) (sym joined)
+    ∙ all_moved (xs ++ x ∷ []) more ys (subst (IsStrictlySortedBy entry_cmp) (sym joined) up) said.1 under.1
+    ∙ ap (λ ls. ls ++ more) (one_moved xs x ys (below_middle xs x more up) said.0 under.0)
+    ∙ append_one (live_lines (xs ++ ys)) x more
+
+some_stays : {E : Type 0} (a w : Option E) → is_some a ≡ true → option_or a w ≡ a
+some_stays None w h = (cc)
+some_stays (Some x) w h = refl
+
+last_hidden : (q x : Entry) (ys : List Entry) → is_replaced ys x ≡ true → last_of entry_cmp q (x ∷ ys) ≡ last_of entry_cmp q ys
+last_hidden q x ys h =
+    elim (is_eq (entry_cmp q x)) as (λ b. is_eq (entry_cmp q x) ≡ b → option_or (last_of entry_cmp q ys) (cond b (Some x) None) ≡ last_of entry_cmp q ys) [
+      | true ↦ λ t. some_stays (last_of entry_cmp q ys) (Some x) (ap is_some (last_alike entries_total q x ys (is_equal (entry_cmp q x) t)) ∙ sym (any_last entry_cmp x ys) ∙ h)
+      | false ↦ λ _. or_none (last_of entry_cmp q ys)
     ] refl
 
-less_from : (o : Ordering) → is_lt (ordering_reverse o) ≡ false → is_eq o ≡ false → o ≡ Less
-less_from Less h k = refl
-less_from Equal h k = (cc)
-less_from Greater h k = (cc)
+-- lines that others replace
+all_dropped : (xs gone ys : List Entry) → AllByRecursion (λ x. is_replaced ys x ≡ true) gone → live_lines ((xs ++ gone) ++ ys) ≡ live_lines (xs ++ ys)
+all_dropped xs [] ys over = ap (λ ls. live_lines (ls ++ ys)) (append-nil xs)
+all_dropped xs (x ∷ gone) ys over =
+    ap (λ ls. live_lines (ls ++ ys)) (sym (append_one xs x gone))
+    ∙ all_dropped (xs ++ x ∷ []) gone ys over.1
+    ∙ ap live_lines (append_one xs x ys)
+    ∙ same_live (xs ++ x ∷ ys) (xs ++ ys) (λ q.
+    last_append entry_cmp q xs (x ∷ ys) ∙ ap (λ a. option_or a (last_of entry_cmp q xs)) (last_hidden q x ys over.0) ∙ sym (last_append entry_cmp q xs ys))
 
-all_further : (x y : Entry) (ys : List Entry) → entry_cmp x y ≡ Less → AllByRecursion (λ z. entry_cmp y z ≡ Less) ys → AllByRecursion (λ z. entry_cmp x z ≡ Less) ys
-all_further x y [] h all = tt
-all_further x y (z ∷ ys) h all = (entries_total.trans x y z h all.0, all_further x y ys h all.1)
+all_over : (heads : List Entry) (head : Entry) (gone : List Entry) → AllByRecursion (λ x. entry_cmp x head ≡ Equal) gone → AllByRecursion (λ x. is_replaced (heads ++ head ∷ []) x ≡ true) gone
+all_over heads head [] same = tt
+all_over heads head (x ∷ gone) same = (
+  list_any-append (have_one_key x) heads (head ∷ [])
+      ∙ ap (λ o. list_any (have_one_key x) heads || (is_eq o || false)) same.0
+      ∙ or_true (list_any (have_one_key x) heads),
+  all_over heads head gone same.1,
+)
+  where
+    or_true : (b : Bool) → (b || true) ≡ true
+    or_true true = refl
+    or_true false = refl
 
-pub one_more : (k : ℕ) → suc k + 1 ≡ suc (k + 1)
-one_more k = omega arith
+all_under : (heads : List Entry) (head : Entry) (more : List Entry) → IsStrictlySortedBy entry_cmp (heads ++ head ∷ []) → AllByRecursion (λ x. entry_cmp x head ≡ Greater) more
+    → AllByRecursion (λ x. AllByRecursion (λ y. entry_cmp y x ≡ Less) (heads ++ head ∷ [])) more
+all_under heads head [] up above = tt
+all_under heads head (x ∷ more) up above =
+    let less : entry_cmp head x ≡ Less = entries_total.antisymm head x ∙ ap ordering_reverse above.0 in (
+      all_both (λ y. entry_cmp y x ≡ Less) heads (head ∷ []) (all_lower head x heads less (below_middle heads head [] up)) (less, tt),
+      all_under heads head more up above.1,
+    )
 
--- a sorted list of different keys is strictly sorted
-pub strictly : {X : Type 0} (f : X → Entry) (xs : List X) → IsSortedBy (λ x y. is_lt (entry_cmp (f x) (f y))) xs → IsDistinct (eq_by_cmp entry_cmp) (map f xs) → IsStrictlySortedBy entry_cmp (map f xs)
-unfolding IsStrictlySortedBy IsDistinct
-strictly f [] sorted apart = tt
-strictly f (x ∷ []) sorted apart = (tt, tt)
-strictly {X} f (x ∷ y ∷ xs) sorted apart =
-    let up : IsSortedBy (λ x y. is_lt (entry_cmp (f x) (f y))) (y ∷ xs) = λ k d low high. subst (λ n. is_lt (entry_cmp (f (get_or (x ∷ y ∷ xs) n d)) (f (get_or (y ∷ xs) k d))) ≡ false) (one_more k) (sorted (suc k) d (omega arith) (omega arith)) in
-    let rest = strictly f (y ∷ xs) up apart.1 in
-    let back : is_lt (entry_cmp (f y) (f x)) ≡ false = sorted zero x (omega arith) (omega arith) in
-    let turned : is_lt (ordering_reverse (entry_cmp (f x) (f y))) ≡ false = ap is_lt (sym (entries_total.antisymm (f y) (f x))) ∙ back in
-    let less : entry_cmp (f x) (f y) ≡ Less = less_from (entry_cmp (f x) (f y)) turned apart.0.0 in
-    ((less, all_further (f x) (f y) (map f xs) less rest.0), rest)
+turned : (behind more : List Entry) (head : Entry) (b : Bool) → reverse ((behind ++ reverse more) ++ cond b (head ∷ []) []) ≡ cond b (head ∷ []) [] ++ (more ++ reverse behind)
+turned behind more head b =
+    reverse-append (behind ++ reverse more) (cond b (head ∷ []) [])
+    ∙ ap (λ ls. ls ++ reverse (behind ++ reverse more)) (elim b as (λ b. reverse (cond b (head ∷ []) []) ≡ cond b (head ∷ []) []) [ true ↦ refl | false ↦ refl ])
+    ∙ ap (λ ls. cond b (head ∷ []) [] ++ ls) (reverse-append behind (reverse more) ∙ ap (λ ls. ls ++ reverse behind) (reverse-reverse more))
 
-pub first_alike : (q k : Entry) (xs : List Entry) → entry_cmp q k ≡ Equal → first_of entry_cmp q xs ≡ first_of entry_cmp k xs
-first_alike q k [] e = refl
-first_alike q k (x ∷ xs) e =
-    ap (λ a. cond (is_eq (entry_cmp q x)) (Some x) a) (first_alike q k xs e) ∙ ap (λ r. cond (is_eq r) (Some x) (first_of entry_cmp k xs)) (entries_total.congr q k x e)
+-- the live lines that are still to come and the lines behind are the whole, and both lists are in order
+pub record AreMerging (whole live heads behind : List Entry) : Type 0 where
+  pub same : live_lines (live ++ heads) ++ reverse behind ≡ whole
+  pub rises : IsStrictlySortedBy entry_cmp live
+  pub states : AllByRecursion (λ l. says l ≡ true) live
+  pub heads_rise : IsStrictlySortedBy entry_cmp heads
 
-pub found_alike : (q x : Entry) (xs : List Entry) → first_of entry_cmp q xs ≡ Some x → entry_cmp q x ≡ Equal
-found_alike q x [] h = (cc)
-found_alike q x (y ∷ ys) h =
-    elim (is_eq (entry_cmp q y)) as (λ b. is_eq (entry_cmp q y) ≡ b → cond b (Some y) (first_of entry_cmp q ys) ≡ Some x → entry_cmp q x ≡ Equal) [
-      | true ↦ λ t k. (let one : y ≡ x = cc in ap (entry_cmp q) (sym one) ∙ is_equal (entry_cmp q y) t)
-      | false ↦ λ _ k. found_alike q x ys k
-    ] refl h
+-- the live lines where the greater ones have moved and those of the head's key are dropped
+one_head : (live heads : List Entry) (head : Entry) (more gone rest : List Entry) → live ≡ (rest ++ gone) ++ more → IsStrictlySortedBy entry_cmp live → AllByRecursion (λ l. says l ≡ true) live
+    → IsStrictlySortedBy entry_cmp (heads ++ head ∷ []) → AllByRecursion (λ l. entry_cmp l head ≡ Greater) more → AllByRecursion (λ l. entry_cmp l head ≡ Equal) gone → AllByRecursion (λ l. entry_cmp l head ≡ Less) rest
+    → live_lines (live ++ (heads ++ head ∷ [])) ≡ (live_lines (rest ++ heads) ++ (if says head then head ∷ [] else [])) ++ more
+one_head live heads head more gone rest is up said heads_up above same below =
+    let all = heads ++ head ∷ [] in
+    ap (λ ls. live_lines (ls ++ all)) is
+    ∙ all_moved (rest ++ gone) more all (subst (IsStrictlySortedBy entry_cmp) is up) (all_backs (λ l. says l ≡ true) (rest ++ gone) more (subst (AllByRecursion (λ l. says l ≡ true)) is said)) (all_under heads head more heads_up above)
+    ∙ ap (λ ls. ls ++ more)
+    (all_dropped rest gone all (all_over heads head gone same)
+    ∙ ap live_lines (sym (append_assoc rest heads (head ∷ [])))
+    ∙ line_last (rest ++ heads) head (all_both (λ l. entry_cmp l head ≡ Less) rest heads below (below_middle heads head [] heads_up)))
 
-moved : (q : Entry) (xs ys : List Entry) → IsPermutation xs ys → IsStrictlySortedBy entry_cmp ys → (a : Option Entry) → first_of entry_cmp q xs ≡ a → first_of entry_cmp q ys ≡ a
-moved q xs ys same up (Some x) is =
-    let there = Contains-permutation xs ys x same (contains_found q x xs is) in
-    first_alike q x ys (found_alike q x xs is) ∙ found_contained x ys up there
-moved q xs ys same up None is =
-    let none = sym (any_first entry_cmp q ys) ∙ sym (list_any-IsPermutation (have_one_key q) xs ys same) ∙ any_first entry_cmp q xs ∙ ap is_some is in
-    none_there (first_of entry_cmp q ys) none
+-- one head taken
+pub step : (whole live heads behind : List Entry) (head : Entry) (kept rest after : List Entry) → AreMerging whole live (heads ++ head ∷ []) behind → AreMoved head live kept behind after → AreBefore head kept rest
+    → AreMerging whole rest heads (after ++ (if says head then head ∷ [] else []))
+step whole live heads behind head kept rest after w m d =
+    let more = m.moved in
+    let top = cond (says head) (head ∷ []) [] in
+    let is : live ≡ (rest ++ d.dropped) ++ more = m.split ∙ ap (λ ls. ls ++ more) d.split in
+    let live_up = subst (IsStrictlySortedBy entry_cmp) is w.rises in
+    let said = subst (AllByRecursion (λ l. says l ≡ true)) is w.states in
+    let front = live_lines (rest ++ heads) in
+    record {
+      same =
+          ap (λ ls. front ++ reverse (ls ++ top)) m.put
+          ∙ ap (λ ls. front ++ ls) (turned behind more head (says head))
+          ∙ sym (append_assoc front top (more ++ reverse behind))
+          ∙ sym (append_assoc (front ++ top) more (reverse behind))
+          ∙ ap (λ ls. ls ++ reverse behind) (sym (one_head live heads head more d.dropped rest is w.rises w.states w.heads_rise m.above d.same d.below))
+          ∙ w.same;
+      rises = sorted_front rest d.dropped (sorted_front (rest ++ d.dropped) more live_up);
+      states = all_fronts (λ l. says l ≡ true) rest d.dropped (all_fronts (λ l. says l ≡ true) (rest ++ d.dropped) more said);
+      heads_rise = sorted_front heads (head ∷ []) w.heads_rise;
+    }
 
--- lines put in another order, which is that of keys
-pub in_order_moved : (xs ys : List Entry) → IsPermutation xs ys → IsStrictlySortedBy entry_cmp ys → ys ≡ in_order entry_cmp [] xs
-in_order_moved xs ys same up =
-    same_lists entries_total ys (in_order entry_cmp [] xs) up (sorted_in_order entries_total xs)
-    (λ q. moved q xs ys same up (first_of entry_cmp q xs) refl ∙ sym (first_in_order entries_total q xs))
+-- where no head is left
+pub end : (whole live behind : List Entry) → AreMerging whole live [] behind → live ++ reverse behind ≡ whole
+end whole live behind w =
+    ap (λ ls. ls ++ reverse behind) (sym (live_again live w.rises w.states) ∙ ap live_lines (sym (append-nil live))) ∙ w.same
 
--- the lines that stay and the new ones, sorted by key, are the live lines
-pub merged : {X : Type 0} (f : X → Entry) (live lines : List Entry) (xs : List X) → IsCatalog live
-    → IsPermutation (staying lines live ++ reverse (filter says (last_lines lines))) (map f xs) → IsSortedBy (λ x y. is_lt (entry_cmp (f x) (f y))) xs
-    → map f xs ≡ live_lines (live ++ lines)
-merged f live lines xs h moves sorted =
-    let fresh = filter says (last_lines lines) in
-    let back = IsPermutation-append_right (staying lines live) fresh (reverse fresh) (IsPermutation-reverse fresh) in
-    let all = IsPermutation-trans (staying lines live ++ fresh) (staying lines live ++ reverse fresh) (map f xs) back moves in
-    let both = last_of_both live lines h.rises h.states in
-    let whole = subst (λ ls. IsPermutation ls (map f xs)) (sym both) all in
-    let lasts = filter says (last_lines (live ++ lines)) in
-    let apart = IsDistinct-IsPermutation (eq_by_cmp entry_cmp) (eq_turned entries_total) lasts (map f xs) whole (lasts_distinct says (live ++ lines)) in
-    in_order_moved lasts (map f xs) whole (strictly f xs sorted apart)
+-- the heads say of live lines what all new lines do
+pub same_heads : (live lines heads : List Entry) → IsPermutation (reverse (last_lines lines)) heads → IsStrictlySortedBy entry_cmp heads → live_lines (live ++ heads) ≡ live_lines (live ++ lines)
+same_heads live lines heads moved up =
+    same_live (live ++ heads) (live ++ lines) (λ q.
+    last_append entry_cmp q live heads ∙ ap (λ a. option_or a (last_of entry_cmp q live)) (heads_last q lines heads moved up) ∙ sym (last_append entry_cmp q live lines))
+
+-- where there is a last line
+pub place_of_last : (xs : List Entry) (x head : Entry) → last_place (xs ++ x ∷ []) head ≡ entry_cmp x head
+place_of_last [] x head = refl
+place_of_last (y ∷ []) x head = refl
+place_of_last (y ∷ z ∷ xs) x head = place_of_last (z ∷ xs) x head
+
+all_level : (x head : Entry) (xs : List Entry) → entry_cmp x head ≡ Equal → AllByRecursion (λ y. entry_cmp y x ≡ Less) xs → AllByRecursion (λ y. entry_cmp y head ≡ Less) xs
+all_level x head [] e all = tt
+all_level x head (y ∷ xs) e all = (sym (alike_right entries_total x head y e) ∙ all.0, all_level x head xs e all.1)
+
+-- where the last line has the head's key
+pub same_dropped : (xs : List Entry) (x head : Entry) → IsStrictlySortedBy entry_cmp (xs ++ x ∷ []) → entry_cmp x head ≡ Equal → AreBefore head (xs ++ x ∷ []) xs
+same_dropped xs x head up e =
+    record { dropped = x ∷ []; split = refl; same = (e, tt); below = all_level x head xs e (below_middle xs x [] up) }
+
+all_before : (head : Entry) (xs : List Entry) → IsStrictlySortedBy entry_cmp xs → last_place xs head ≡ Less → AllByRecursion (λ y. entry_cmp y head ≡ Less) xs
+all_before head [] up less = tt
+all_before head (x ∷ []) up less = (less, tt)
+all_before head (x ∷ y ∷ xs) up less =
+    let rest = all_before head (y ∷ xs) (sorted_tail entry_cmp x (y ∷ xs) up) less in
+    let first = sorted_head entry_cmp x (y ∷ xs) up in
+    (entries_total.trans x y head first.0 rest.0, rest)
+
+-- where it hasn't
+pub none_dropped : (xs : List Entry) (head : Entry) → IsStrictlySortedBy entry_cmp xs → last_place xs head ≡ Less → AreBefore head xs xs
+none_dropped xs head up less =
+    record { dropped = []; split = sym (append-nil xs); same = tt; below = all_before head xs up less }
+
+-- one line more moves
+pub one_more_moved : (head : Entry) (lines kept behind after : List Entry) (x : Entry) → AreMoved head lines (kept ++ x ∷ []) behind after → entry_cmp x head ≡ Greater → AreMoved head lines kept behind (after ++ x ∷ [])
+one_more_moved head lines kept behind after x m above = record {
+  moved = x ∷ m.moved;
+  split = m.split ∙ append_one kept x m.moved;
+  put = ap (λ ls. ls ++ x ∷ []) m.put ∙ append_assoc behind (reverse m.moved) (x ∷ []) ∙ ap (λ ls. behind ++ ls) (sym (reverse-append (x ∷ []) m.moved));
+  above = (above, m.above);
+}
+
+-- what stays of lines in order is in order
+pub kept_rises : (head : Entry) (lines kept behind after : List Entry) → AreMoved head lines kept behind after → IsStrictlySortedBy entry_cmp lines → IsStrictlySortedBy entry_cmp kept
+kept_rises head lines kept behind after m up = sorted_front kept m.moved (subst (IsStrictlySortedBy entry_cmp) m.split up)
+
+pub less_left : (o : Ordering) → is_gt o ≡ false → is_eq o ≡ false → o ≡ Less
+less_left Less h k = refl
+less_left Equal h k = (cc)
+less_left Greater h k = (cc)
+
+pub is_greater : (o : Ordering) → is_gt o ≡ true → o ≡ Greater
+is_greater Less h = (cc)
+is_greater Equal h = (cc)
+is_greater Greater h = refl
+
+pub one_taken : {X : Type 0} (f : X → Entry) (xs ys : List X) (x : X) → xs ≡ ys ++ x ∷ [] → map f xs ≡ map f ys ++ f x ∷ []
+one_taken f xs ys x is = ap (map f) is ∙ map-append f ys (x ∷ [])
+
+pub map_reversed : {X : Type 0} (f : X → Entry) (xs : List X) → map f (reverse xs) ≡ reverse (map f xs)
+map_reversed f [] = refl
+map_reversed f (x ∷ xs) =
+    ap (map f) (reverse-append (x ∷ []) xs) ∙ map-append f (reverse xs) (x ∷ []) ∙ ap (λ ls. ls ++ f x ∷ []) (map_reversed f xs) ∙ sym (reverse-append (f x ∷ []) (map f xs))

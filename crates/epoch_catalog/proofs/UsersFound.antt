@@ -25,9 +25,8 @@ use Rattle.epoch_rules.specs.KeyOrder.{KeyParts, entry_cmp, parts_of, rank_of, t
 use Rattle.epoch_rules.specs.LiveLines.{is_statement, says}
 use Rattle.epoch_rules.specs.Rules.{is_line_of}
 use Rattle.epoch_catalog.proofs.FamilyPlaces.{both_eq, front_cmp, front_rises, front_total, same_rank, same_text}
-use Rattle.epoch_catalog.proofs.Heads.{any_mapped, none_at}
+use Rattle.epoch_catalog.proofs.Heads.{any_mapped, none_at, one_more}
 use Rattle.epoch_rules.proofs.KeptCatalog.{kind_by_rank}
-use Rattle.epoch_catalog.proofs.Merged.{one_more}
 
 below : (o : Ordering) → is_gt o ≡ false → is_lt (ordering_reverse o) ≡ false
 below Less h = refl

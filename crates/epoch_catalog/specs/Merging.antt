@@ -1,11 +1,14 @@
--- The last new lines of their keys, found from the last line to the first.
-use Rattle.std.specs.Prelude.{◌≡◌, Bool, List, reverse}
-use Rattle.std.specs.List.{list_any}
+-- The last new lines of their keys, found from the last line to the first; and how live lines and these are
+-- merged, from the last key to the first.
+use Rattle.std.specs.Prelude.{◌≡◌, Bool, List, [], ◌∷◌, ◌++◌, reverse}
+use Rattle.std.specs.List.{list_any, AllByRecursion}
+use Rattle.std.specs.declared.cmp.Ordering.{Ordering}
+use Rattle.std.specs.declared.cmp.Ordering.TheVariants.{Less, Equal, Greater}
 use Rattle.std.specs.Ordering.{is_eq}
 use Rattle.std.specs.BTreeSet.{BTreeSet}
 use Rattle.epochs.specs.Lines.{Entry}
 use Rattle.epoch_rules.specs.declared.key_order.KeyView.{KeyView}
-use Rattle.epoch_rules.specs.KeyOrder.{parts_cmp, parts_of}
+use Rattle.epoch_rules.specs.KeyOrder.{entry_cmp, parts_cmp, parts_of}
 use Rattle.epoch_rules.specs.KeyViews.{view_seen}
 use Rattle.epoch_rules.specs.LiveLines.{is_replaced, last_lines}
 
@@ -17,3 +20,23 @@ has_key keys e = list_any (λ v. is_eq (parts_cmp (parts_of e) (view_seen v))) k
 pub record AreFound (lines : List Entry) (keys : BTreeSet KeyView) (heads : List Entry) : Type 0 where
   pub keys_are : (e : Entry) → has_key keys e ≡ is_replaced lines e
   pub heads_are : heads ≡ reverse (last_lines lines)
+
+-- where the key of the last line stands to a head's; before it where there is no line
+abbrev pub last_place : List Entry → Entry → Ordering
+last_place [] head = Less
+last_place (l ∷ []) head = entry_cmp l head
+last_place (l ∷ m ∷ more) head = last_place (m ∷ more) head
+
+-- the lines at the end whose keys are greater than a head's have moved behind others, the last of them first
+pub record AreMoved (head : Entry) (lines kept behind after : List Entry) : Type 0 where
+  pub moved : List Entry
+  pub split : lines ≡ kept ++ moved
+  pub put : after ≡ behind ++ reverse moved
+  pub above : AllByRecursion (λ l. entry_cmp l head ≡ Greater) moved
+
+-- the lines whose keys are less than a head's stay, and only lines of its key stood behind them
+pub record AreBefore (head : Entry) (lines kept : List Entry) : Type 0 where
+  pub dropped : List Entry
+  pub split : lines ≡ kept ++ dropped
+  pub same : AllByRecursion (λ l. entry_cmp l head ≡ Equal) dropped
+  pub below : AllByRecursion (λ l. entry_cmp l head ≡ Less) kept

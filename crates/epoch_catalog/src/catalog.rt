@@ -7,23 +7,25 @@ ghost use Rattle.epochs.specs.Values.{user_line};
 ghost use Rattle.epochs.specs.Views.{seen};
 ghost use Rattle.epoch_rules.specs.Catalog.{IsCatalog, is_user};
 ghost use Rattle.epoch_catalog.specs.Families.{is_in};
+ghost use Rattle.epoch_rules.specs.Indexes.{IsIndex};
 ghost use Rattle.epoch_rules.specs.Kept.{AreKept, IsCheckFault, RefusesLines};
 ghost use Rattle.epoch_rules.specs.LiveLines.{live_lines};
 
 use crate::families::{Family, family_in};
 use crate::merging::merge;
 use crate::users::user_in;
-use epoch_rules::{CheckFault, check_lines};
+use epoch_rules::{CheckFault, Index, check_lines};
 use epochs::{Line, User};
 use exact_time::{Many, OutOfMemory};
 use std::alloc::Global;
 use std::marker::Model;
 
-/// The live lines, in the order of their keys (`specs/KeyOrder.antt`). Seen as their list; its type keeps
-/// `IsCatalog` of `specs/Catalog.antt`.
+/// The live lines, in the order of their keys (`specs/KeyOrder.antt`), and what the rules need of them all
+/// (`Index`). Seen as the list of lines; its type keeps `IsCatalog` and `IsIndex` of the crate `epoch_rules`.
 #[derive(Debug, Drop)]
 pub struct Catalog {
     lines: Vec<Line>,
+    index: Index,
 }
 
 impl Model for Catalog {
@@ -31,7 +33,7 @@ impl Model for Catalog {
 
     ghost view = { λ c. map seen c.lines.items };
 
-    ghost invariant = { λ c. IsCatalog (map seen c.lines.items) };
+    ghost invariant = { λ c. IsCatalog (map seen c.lines.items) × IsIndex c.index (map seen c.lines.items) };
 }
 
 impl Catalog {
@@ -41,6 +43,7 @@ impl Catalog {
     {
         Catalog {
             lines: Vec::new(alloc),
+            index: Index::new(alloc),
         }
     }
 
@@ -77,6 +80,7 @@ impl Catalog {
         check_lines(
             *self.lines.allocator(),
             self.lines.as_slice(),
+            &self.index,
             lines.as_slice(),
         )
     }
@@ -87,6 +91,12 @@ impl Catalog {
         ensures ok { OnOk result (self.new ≡ live_lines (self.old ++ map seen lines.now)) }
         ensures err { OnErr result (self.new ≡ self.old) }
     {
-        merge(&mut self.lines, lines.as_slice())
+        let alloc = *self.lines.allocator();
+        let index = self
+            .index
+            .after(alloc, self.lines.as_slice(), lines.as_slice())?;
+        merge(&mut self.lines, lines.as_slice())?;
+        self.index = index;
+        Ok(())
     }
 }

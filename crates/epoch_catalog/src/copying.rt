@@ -1,17 +1,18 @@
 //! Copies of lines.
 ghost use Rattle.std.specs.Prelude.{◌≡◌, IfOk};
 ghost use Rattle.channel_globs.specs.PatternText.{IsPatternList};
+ghost use Rattle.epochs.specs.declared.key.Key.TheVariants as key;
 ghost use Rattle.epochs.specs.declared.line.Line.TheVariants as line;
 ghost use Rattle.epochs.specs.Entries.{IsEntry};
 ghost use Rattle.epochs.specs.Keys.{deletion_line};
 ghost use Rattle.epochs.specs.Views.{seen};
 
-use channel_globs::{Part, PatternList};
+use channel_globs::{Code, Part, PatternList};
 use epochs::{
     ChannelEpoch, Deletion, Event, Glob, Grant, Key, Line, NetworkEpoch, Restriction, StationEpoch,
     User,
 };
-use exact_time::{OutOfMemory, Text};
+use exact_time::{Moment, OutOfMemory, Text};
 use std::alloc::Global;
 
 fn copy_text(alloc: Global, text: &Text) -> Result<Text, OutOfMemory>
@@ -157,6 +158,61 @@ fn copy_usr(alloc: Global, user: &User) -> Result<Line, OutOfMemory>
     }))
 }
 
+// The key of a station's epoch.
+fn station_key(network: Code, station: Code, start: Moment) -> Key
+    ensures { result ≡ key.Sta network station start }
+{
+    Key::Sta {
+        network,
+        station,
+        start,
+    }
+}
+
+// A copy of the key of a restriction.
+fn copy_restricted(
+    alloc: Global,
+    network: &Glob,
+    station: &Glob,
+    location: &Glob,
+    channel: &Glob,
+    start: Moment,
+) -> Result<Key, OutOfMemory>
+    requires { IsEntry (deletion_line (key.Rst network.now station.now location.now channel.now start)) }
+    ensures { IfOk result (λ copy. copy ≡ key.Rst network.now station.now location.now channel.now start) }
+{
+    Ok(Key::Rst {
+        network: copy_glob(alloc, Part::Network, network)?,
+        station: copy_glob(alloc, Part::Station, station)?,
+        location: copy_glob(alloc, Part::Location, location)?,
+        channel: copy_glob(alloc, Part::Channel, channel)?,
+        start,
+    })
+}
+
+// A copy of the key of a grant.
+fn copy_granted(
+    alloc: Global,
+    user: &Text,
+    network: &Glob,
+    station: &Glob,
+    location: &Glob,
+    channel: &Glob,
+    start: Moment,
+) -> Result<Key, OutOfMemory>
+    requires { IsEntry (deletion_line (key.Grt user.now network.now station.now location.now channel.now start)) }
+    ensures { IfOk result (λ copy. copy ≡ key.Grt user.now network.now station.now location.now channel.now start) }
+{
+    Ok(Key::Grt {
+        user: copy_text(alloc, user)?,
+        network: copy_glob(alloc, Part::Network, network)?,
+        station: copy_glob(alloc, Part::Station, station)?,
+        location: copy_glob(alloc, Part::Location, location)?,
+        channel: copy_glob(alloc, Part::Channel, channel)?,
+        start,
+    })
+}
+
 fn copy_key(alloc: Global, key: &Key) -> Result<Key, OutOfMemory>
     requires { IsEntry (deletion_line key.now) }
     ensures { IfOk result (λ copy. copy ≡ key.now) }
@@ -170,31 +226,19 @@ fn copy_key(alloc: Global, key: &Key) -> Result<Key, OutOfMemory>
             network,
             station,
             start,
-        } => Ok(Key::Sta {
-            network: *network,
-            station: *station,
-            start: *start,
-        }),
+        } => Ok(station_key(*network, *station, *start)),
         Key::Cha { name, start } => Ok(Key::Cha {
             name: *name,
             start: *start,
         }),
-        Key::Evt { id } => Ok(Key::Evt {
-            id: copy_text(alloc, id)?,
-        }),
+        Key::Evt { id } => copy_text(alloc, id).map(|id| Key::Evt { id }),
         Key::Rst {
             network,
             station,
             location,
             channel,
             start,
-        } => Ok(Key::Rst {
-            network: copy_glob(alloc, Part::Network, network)?,
-            station: copy_glob(alloc, Part::Station, station)?,
-            location: copy_glob(alloc, Part::Location, location)?,
-            channel: copy_glob(alloc, Part::Channel, channel)?,
-            start: *start,
-        }),
+        } => copy_restricted(alloc, network, station, location, channel, *start),
         Key::Grt {
             user,
             network,
@@ -202,17 +246,8 @@ fn copy_key(alloc: Global, key: &Key) -> Result<Key, OutOfMemory>
             location,
             channel,
             start,
-        } => Ok(Key::Grt {
-            user: copy_text(alloc, user)?,
-            network: copy_glob(alloc, Part::Network, network)?,
-            station: copy_glob(alloc, Part::Station, station)?,
-            location: copy_glob(alloc, Part::Location, location)?,
-            channel: copy_glob(alloc, Part::Channel, channel)?,
-            start: *start,
-        }),
-        Key::Usr { name } => Ok(Key::Usr {
-            name: copy_text(alloc, name)?,
-        }),
+        } => copy_granted(alloc, user, network, station, location, channel, *start),
+        Key::Usr { name } => copy_text(alloc, name).map(|name| Key::Usr { name }),
     }
 }
 

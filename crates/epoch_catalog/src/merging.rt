@@ -1,20 +1,21 @@
 //! Live lines and new ones, merged.
-ghost use Rattle.std.specs.Prelude.{◌≡◌, ◌++◌, [], ◌∷◌, ◌+◌, ◌≤◌, ◌||◌, not, map, filter, reverse, OnOk, OnErr, IfOk, vec_len, vec_capacity, if◌then◌else◌};
-ghost use Rattle.std.specs.List.{list_any, IsDistinct};
-ghost use Rattle.std.specs.List.Sorted.{IsPermutation, IsSortedBy, IsStrictlySortedBy};
-ghost use Rattle.std.specs.Ordering.{eq_by_cmp, is_lt};
+ghost use Rattle.std.specs.Prelude.{◌≡◌, ◌++◌, [], ◌∷◌, ◌+◌, ◌≤◌, ◌<◌, ◌||◌, false, map, reverse, OnOk, OnErr, IfOk, vec_len, vec_capacity, if◌then◌else◌};
+ghost use Rattle.std.specs.List.{IsDistinct};
+ghost use Rattle.std.specs.List.Sorted.{IsPermutation, IsStrictlySortedBy};
+ghost use Rattle.std.specs.Ordering.{eq_by_cmp, is_gt};
 ghost use Rattle.epochs.specs.Lines.{Entry};
 ghost use Rattle.epochs.specs.Views.{seen};
 ghost use Rattle.epoch_rules.specs.KeyOrder.{entry_cmp, have_one_key};
-ghost use Rattle.epoch_rules.specs.LiveLines.{says, is_replaced, last_lines, live_lines};
+ghost use Rattle.epoch_rules.specs.LiveLines.{says, last_lines, live_lines};
 ghost use Rattle.epoch_rules.specs.Catalog.{IsCatalog};
-ghost use Rattle.epoch_catalog.specs.Merging.{has_key};
+ghost use Rattle.epoch_catalog.specs.Merging.{has_key, last_place, AreMoved, AreBefore};
 
 use crate::copying::copy_line;
 use epoch_rules::{KeyView, cmp_keys, key_view, says};
 use epochs::Line;
 use exact_time::OutOfMemory;
 use std::alloc::Global;
+use std::cmp::Ordering;
 use std::collections::BTreeSet;
 
 // Adds the key of a line, and the line where its key is new.
@@ -46,15 +47,13 @@ fn find_heads<'a>(alloc: Global, lines: &'a [Line]) -> Result<Vec<&'a Line>, Out
     Ok(heads)
 }
 
-// Copies of the lines that aren't deletions.
-fn copy_said(alloc: Global, heads: &[&Line]) -> Result<Vec<Line>, OutOfMemory>
-    ensures { IfOk result (λ copies. map seen copies.items ≡ filter says (map (λ head. seen head.now) heads.now)) }
+// Copies of lines, deletions too.
+fn copy_all(alloc: Global, heads: &[&Line]) -> Result<Vec<Line>, OutOfMemory>
+    ensures { IfOk result (λ copies. map seen copies.items ≡ map (λ head. seen head.now) heads.now) }
 {
     let mut copies = Vec::new(alloc);
     'heads: for head in heads {
-        if says(head) {
-            copies.push(copy_line(alloc, head)?)?;
-        }
+        copies.push(copy_line(alloc, head)?)?;
     }
     Ok(copies)
 }
@@ -68,41 +67,85 @@ fn sort_heads(heads: &mut Vec<&Line>)
     heads.sort_unstable_by(|a, b| cmp_keys(a, b));
 }
 
-// Whether one of the lines, which are in order, has the line's key.
-fn is_among(heads: &[&Line], line: &Line) -> bool
-    requires { IsStrictlySortedBy entry_cmp (map (λ head. seen head.now) heads.now) }
-    ensures { result ≡ list_any (have_one_key (seen line.now)) (map (λ head. seen head.now) heads.now) }
+// Where the key of the last line stands to a head's; before it where there is no line.
+fn place_last(live: &[Line], head: &Line) -> Ordering
+    ensures { result ≡ last_place (map seen live.now) (seen head.now) }
 {
-    heads.binary_search_by(|head| cmp_keys(head, line)).is_ok()
+    match live.split_last() {
+        Some((line, _)) => cmp_keys(line, head),
+        None => Ordering::Less,
+    }
 }
 
-// Removes the lines whose key one of the heads has.
-fn remove_keys(live: &mut Vec<Line>, heads: &[&Line])
-    requires { IsStrictlySortedBy entry_cmp (map (λ head. seen head.now) heads.now) }
-    ensures lines { map seen live.new.items ≡ filter (λ l. not (is_replaced (map (λ head. seen head.now) heads.now) l)) (map seen live.old.items) }
+// Moves the lines of greater keys than a head's behind others, for which there is room, the last first.
+fn move_behind(live: &mut Vec<Line>, behind: &mut Vec<Line>, head: &Line)
+    requires { vec_len live.old + vec_len behind.old ≤ vec_capacity behind.old }
+    ensures moved { AreMoved (seen head.now) (map seen live.old.items) (map seen live.new.items) (map seen behind.old.items) (map seen behind.new.items) }
+    ensures rest { is_gt (last_place (map seen live.new.items) (seen head.now)) ≡ false }
+    ensures len { vec_len live.new + vec_len behind.new ≡ vec_len live.old + vec_len behind.old }
+    ensures live_capacity { vec_capacity live.new ≡ vec_capacity live.old }
+    ensures behind_capacity { vec_capacity behind.new ≡ vec_capacity behind.old }
+{
+    'moved: while place_last(live, head).is_gt() {
+        behind.push_reserved(live.take_last());
+    }
+}
+
+// Drops the last line where it has a head's key.
+fn drop_same(live: &mut Vec<Line>, head: &Line)
+    requires rises { IsStrictlySortedBy entry_cmp (map seen live.old.items) }
+    requires rest { is_gt (last_place (map seen live.old.items) (seen head.now)) ≡ false }
+    ensures before { AreBefore (seen head.now) (map seen live.old.items) (map seen live.new.items) }
     ensures len { vec_len live.new ≤ vec_len live.old }
     ensures capacity { vec_capacity live.new ≡ vec_capacity live.old }
 {
-    live.retain(|line| !is_among(heads, line));
+    if place_last(live, head).is_eq() {
+        let _ = live.take_last();
+    }
 }
 
-// Puts lines behind others, for which there is room.
+// Puts a head behind other lines, for which there is room, where it isn't a deletion.
+fn put_said(behind: &mut Vec<Line>, head: Line)
+    requires { vec_len behind.old < vec_capacity behind.old }
+    ensures lines { map seen behind.new.items ≡ map seen behind.old.items ++ (if says (seen head) then seen head ∷ [] else []) }
+    ensures len { vec_len behind.new ≤ vec_len behind.old + 1 }
+    ensures capacity { vec_capacity behind.new ≡ vec_capacity behind.old }
+{
+    if says(&head) {
+        behind.push_reserved(head);
+    }
+}
+
+// Merges live lines and heads, both in the order of keys, from the last key to the first: what is less than
+// each head stays, and the other lines go behind, the last first.
+fn merge_heads(live: &mut Vec<Line>, heads: &mut Vec<Line>, behind: &mut Vec<Line>)
+    requires catalog { IsCatalog (map seen live.old.items) }
+    requires rise { IsStrictlySortedBy entry_cmp (map seen heads.old.items) }
+    requires empty { behind.old.items ≡ [] }
+    requires room { vec_len live.old + vec_len heads.old ≤ vec_capacity behind.old }
+    ensures lines { map seen live.new.items ++ reverse (map seen behind.new.items) ≡ live_lines (map seen live.old.items ++ map seen heads.old.items) }
+    ensures len { vec_len live.new + vec_len behind.new ≤ vec_len live.old + vec_len heads.old }
+    ensures capacity { vec_capacity live.new ≡ vec_capacity live.old }
+{
+    'heads: while let Some(head) = heads.pop() {
+        move_behind(live, behind, &head);
+        drop_same(live, &head);
+        put_said(behind, head);
+    }
+}
+
+// Puts lines behind others, the last first, for which there is room.
 fn put_behind(lines: &mut Vec<Line>, more: &mut Vec<Line>)
     requires { vec_len lines.old + vec_len more.old ≤ vec_capacity lines.old }
-    ensures { lines.new.items ≡ lines.old.items ++ more.old.items }
+    ensures { lines.new.items ≡ lines.old.items ++ reverse more.old.items }
 {
+    more.reverse();
     let _ = lines.append(more);
 }
 
-fn sort_lines(lines: &mut Vec<Line>)
-    ensures sorted { IsSortedBy (λ a b. is_lt (entry_cmp (seen a) (seen b))) lines.new.items }
-    ensures moved { IsPermutation (map seen lines.old.items) (map seen lines.new.items) }
-{
-    lines.sort_unstable_by(|a, b| cmp_keys(a, b));
-}
-
-/// Makes live lines those after some more lines. Copies only the lines that become live, and needs memory
-/// only before anything changes: where it is missing, the live lines stay.
+/// Makes live lines those after some more lines, in one walk over both in the order of their keys. Copies
+/// the last of the new lines of each key, and needs memory only before anything changes: where it is missing,
+/// the live lines stay.
 pub fn merge(live: &mut Vec<Line>, lines: &[Line]) -> Result<(), OutOfMemory>
     requires { IsCatalog (map seen live.old.items) }
     ensures ok { OnOk result (map seen live.new.items ≡ live_lines (map seen live.old.items ++ map seen lines.now)) }
@@ -110,11 +153,11 @@ pub fn merge(live: &mut Vec<Line>, lines: &[Line]) -> Result<(), OutOfMemory>
 {
     let alloc = *live.allocator();
     let mut heads = find_heads(alloc, lines)?;
-    let mut copies = copy_said(alloc, &heads)?;
-    live.reserve(copies.len())?;
     sort_heads(&mut heads);
-    remove_keys(live, &heads);
-    put_behind(live, &mut copies);
-    sort_lines(live);
+    let mut copies = copy_all(alloc, &heads)?;
+    let mut behind = Vec::with_capacity(alloc, live.len() + copies.len())?;
+    live.reserve(copies.len())?;
+    merge_heads(live, &mut copies, &mut behind);
+    put_behind(live, &mut behind);
     Ok(())
 }

@@ -4,7 +4,7 @@ use Rattle.std.specs.Borrow.{Bor}
 use Rattle.std.specs.List.{list_any, AllByRecursion}
 use Rattle.std.specs.Str.{bytes_eq}
 use Rattle.std.specs.declared.cmp.Ordering.TheVariants.{Equal}
-use Rattle.std.proofs.lemmas.Bool.{and_parts}
+use Rattle.std.proofs.lemmas.Bool.{and_from, and_parts}
 use Rattle.epochs.specs.declared.kinds.Kind.TheVariants.{Net, Sta, Cha, Usr}
 use Rattle.epochs.specs.declared.line.Line.{Line}
 use Rattle.epochs.specs.Lines.{Entry}
@@ -21,7 +21,7 @@ use Rattle.epoch_rules.specs.LiveLines.{says}
 use Rattle.epoch_rules.proofs.Ended.{any_same, one_at_key}
 use Rattle.epoch_rules.proofs.Exact.{exact_parts}
 use Rattle.epoch_rules.proofs.FamilyKeys.{kind_rank, rank_kind, one_family}
-use Rattle.epoch_rules.proofs.Members.{Has, all_has, both, none_from, same_bool}
+use Rattle.epoch_rules.proofs.Members.{Has, all_has, none_from, same_bool}
 use Rattle.epoch_rules.proofs.Nearest.{first_there, none_there}
 use Rattle.epoch_rules.proofs.Orders.{parts_total}
 use Rattle.epoch_rules.proofs.Grants.{same_text, text_itself}
@@ -59,7 +59,7 @@ module _ (live : List Entry) (is : IsCatalog live) (neat : AllByRecursion Tidy l
       same_bool (is_at_key (user_key x) l) (is_grantee x l)
       (λ h.
       let keys = exact_parts (user_key x) (parts_of l) (is_equal (parts_cmp (user_key x) (parts_of l)) h) in
-      both (is_line_of Usr l) (bytes_eq (parts_of l).first (parts_of x).first)
+      and_from (is_line_of Usr l) (bytes_eq (parts_of l).first (parts_of x).first)
       (rank_kind Usr l (all_has (λ m. says m ≡ true) live l is.states l_in) (sym (ap (λ p. p.rank) keys)))
       (ap (λ p. bytes_eq p.first (parts_of x).first) (sym keys) ∙ text_itself (parts_of x).first))
       (λ h.

@@ -8,15 +8,15 @@ use Rattle.std.specs.declared.cmp.Ordering.TheVariants.{Less, Equal, Greater}
 use Rattle.std.specs.BTreeSet.{insert_key}
 use Rattle.epochs.specs.Lines.{Entry}
 use Rattle.epoch_rules.specs.KeyOrder.{entry_cmp, have_one_key}
-use Rattle.epoch_rules.proofs.Members.{either_false}
 use Rattle.epoch_rules.proofs.Orders.{entries_total}
 use Rattle.epoch_rules.proofs.Replaced.{sorted_head, sorted_tail, all_level}
 use Rattle.epoch_rules.proofs.WithLine.{others}
+use Rattle.std.proofs.lemmas.Bool.{or_parts}
 
 pub count_put : (p : Entry → Bool) (e : Entry) (xs : List Entry) → list_any (have_one_key e) xs ≡ false → length (filter p (insert_key entry_cmp xs e)) ≡ length (filter p xs) + (if p e then 1 else 0)
 count_put p e [] none = elim (p e) as (λ b. length (cond b (e ∷ []) []) ≡ 0 + cond b 1 0) [ true ↦ refl | false ↦ refl ]
 count_put p e (x ∷ xs) none =
-    let n = either_false (have_one_key e x) (list_any (have_one_key e) xs) none in
+    let n = or_parts (have_one_key e x) (list_any (have_one_key e) xs) none in
     let more = count_put p e xs n.1 in
     elim (entry_cmp e x) as (λ r. is_eq r ≡ false → length (filter p (match_ordering r (e ∷ x ∷ xs) (x ∷ xs) (x ∷ insert_key entry_cmp xs e))) ≡ length (filter p (x ∷ xs)) + (if p e then 1 else 0)) [
       | Less ↦ λ _.

@@ -3,7 +3,7 @@ use Rattle.std.proofs.Common.{◌≡◌, ◌∙◌, ℕ, ◌==◌, ◌<◌, Bool
 use Rattle.std.specs.List.{list_any}
 use Rattle.std.specs.Str.{bytes_eq}
 use Rattle.std.specs.BTreeSet.{BTreeSet}
-use Rattle.std.proofs.lemmas.Bool.{both_ways, and_parts, eqb-true}
+use Rattle.std.proofs.lemmas.Bool.{and_parts, both_ways, eqb-true, false_from_ne_true}
 use Rattle.epochs.specs.declared.kinds.Kind.{Kind}
 use Rattle.epochs.specs.declared.kinds.Kind.TheVariants.{Net, Sta, Cha, Evt, Rst, Grt, Usr}
 use Rattle.epochs.specs.declared.kinds.Head.{Head}
@@ -16,14 +16,15 @@ use Rattle.epoch_rules.specs.Catalog.{IsCatalog}
 use Rattle.epoch_rules.specs.Endings.{HoldsEnds, cut, ending_of, ending_seen, is_between, is_child}
 use Rattle.epoch_rules.specs.KeyOrder.{parts_of, rank_of, have_one_key}
 use Rattle.epoch_rules.specs.LiveLines.{says}
-use Rattle.epoch_rules.specs.Losses.{is_cut, is_cut_in, is_grant_of, makes_orphans, new_end, of_network, of_station}
+use Rattle.epoch_rules.specs.Losses.{is_cut, is_cut_in, is_grant_of, loses_grants, makes_orphans, new_end, of_network, of_station}
 use Rattle.epoch_rules.specs.Neighbours.{is_at_key}
 use Rattle.epoch_rules.specs.Rules.{ends_by, is_line_of}
 use Rattle.epoch_rules.proofs.CutEnds.{between_cuts}
 use Rattle.epoch_rules.proofs.Ended.{any_same, one_at_key}
 use Rattle.epoch_rules.proofs.KeptCatalog.{kind_by_rank}
-use Rattle.epoch_rules.proofs.Members.{Has, all_has, is_false, none_from, same_bool}
+use Rattle.epoch_rules.proofs.Members.{Has, all_has, none_from, same_bool}
 use Rattle.epoch_rules.proofs.Nearest.{none_there}
+use Rattle.epoch_rules.proofs.Orphans.{one_two}
 
 kind_small : (k : Kind) → rank_of k < 255
 kind_small Net = omega arith
@@ -77,14 +78,11 @@ by_rank kind x h = rank_turned (rank_of kind) (parts_of x).rank ∙ sym (kind_by
 -- a station isn't a channel
 not_channel : (x : Entry) → says x ≡ true → is_line_of Sta x ≡ true → is_line_of Cha x ≡ false
 not_channel x h sta =
-    is_false (is_line_of Cha x)
+    false_from_ne_true (is_line_of Cha x)
     (λ cha.
     let one : rank_of Sta ≡ (parts_of x).rank = eqb-true (rank_of Sta) (parts_of x).rank (by_rank Sta x h ∙ sta) in
     let two : rank_of Cha ≡ (parts_of x).rank = eqb-true (rank_of Cha) (parts_of x).rank (by_rank Cha x h ∙ cha) in
     one_two (one ∙ sym two))
-  where
-    one_two : rank_of Sta ≡ rank_of Cha → ⊥
-    one_two h = omega (arith, h)
 
 station_tests : (s c b n a : Bool) (t : Text) → (s ≡ true → c ≡ false) → ((s || c) && ((s && (b && bytes_eq [] (if c then t else []))) && (n && a))) ≡ (((s && b) && n) && a)
 station_tests true true b n a t h = absurd (both_ways true (h refl) refl)
@@ -93,18 +91,14 @@ station_tests true false false n a t h = refl
 station_tests false true b n a t h = refl
 station_tests false false b n a t h = refl
 
+assoc : (x y z : Bool) → (x && (y && z)) ≡ ((x && y) && z)
+assoc true y z = refl
+assoc false y z = refl
+
 channel_tests : (s c b n a : Bool) (second t : Text) → ((s || c) && ((c && (b && bytes_eq second (if c then t else []))) && (n && a))) ≡ (((c && (b && bytes_eq second t)) && n) && a)
 channel_tests true true b n a second t = assoc (b && bytes_eq second t) n a
-  where
-    assoc : (x y z : Bool) → (x && (y && z)) ≡ ((x && y) && z)
-    assoc true y z = refl
-    assoc false y z = refl
 channel_tests true false b n a second t = refl
 channel_tests false true b n a second t = assoc (b && bytes_eq second t) n a
-  where
-    assoc : (x y z : Bool) → (x && (y && z)) ≡ ((x && y) && z)
-    assoc true y z = refl
-    assoc false y z = refl
 channel_tests false false b n a second t = refl
 
 module _ (live : List Entry) (is : IsCatalog live) (e : Entry) where
@@ -147,6 +141,5 @@ module _ (live : List Entry) (e : Entry) where
   unfolding by_key_rank
   at_station rank = sym (ap (λ r. by_key_rank r (says e)) rank ∙ or_none (list_any (is_cut Cha of_station live e) live || false) ∙ or_none (list_any (is_cut Cha of_station live e) live))
 
-  pub at_user : (parts_of e).rank ≡ 6 → says e ≡ false → list_any (is_grant_of (parts_of e).first) live ≡ makes_orphans live e
-  unfolding by_key_rank
-  at_user rank gone = sym ((λ i. by_key_rank (rank i) (gone i)))
+  pub at_other : ((parts_of e).rank == 0) ≡ false → ((parts_of e).rank == 1) ≡ false → loses_grants live e ≡ makes_orphans live e
+  at_other net sta = sym (λ i. (sta i && list_any (is_cut Cha of_station live e) live || net i && list_any (is_cut Sta of_network live e) live) || loses_grants live e)

@@ -18,6 +18,7 @@ use Rattle.epoch_rules.specs.KeyOrder.{KeyParts, parts_cmp, text_cmp, or_zero}
 use Rattle.epoch_rules.specs.Rules.{ends_by}
 use Rattle.epoch_rules.proofs.Lookups.{is_equal}
 use Rattle.epoch_rules.proofs.Members.{same_bool}
+use Rattle.epoch_rules.proofs.Orders.{then_assoc}
 
 -- ends, of which an absent one is after all
 abbrev pub stop_cmp : Option ℤ → Option ℤ → Ordering
@@ -39,11 +40,6 @@ stop_less (Some x) (Some y) = lt_cmp x y
 
 abbrev codes_cmp : ℕ → (first second : Text) → EndingParts → Ordering
 codes_cmp rank first second q = ordering_then (nat_cmp rank q.rank) (ordering_then (text_cmp first q.first) (text_cmp second q.second))
-
-then_assoc : (a b c : Ordering) → ordering_then (ordering_then a b) c ≡ ordering_then a (ordering_then b c)
-then_assoc Less b c = refl
-then_assoc Equal b c = refl
-then_assoc Greater b c = refl
 
 greater_than : (n : ℕ) → n < 255 → nat_cmp 255 n ≡ Greater
 greater_than n h = sym (nat_cmp_is 255 n Greater h)

@@ -6,7 +6,7 @@ use Rattle.std.specs.Ordering.{is_eq, match_ordering}
 use Rattle.std.specs.declared.cmp.Ordering.TheVariants.{Less, Equal, Greater}
 use Rattle.std.specs.BTreeSet.{BTreeSet, insert_key}
 use Rattle.std.proofs.lemmas.Cmp.{tied_itself}
-use Rattle.std.proofs.lemmas.Bool.{cases_Bool, both_ways, and_parts}
+use Rattle.std.proofs.lemmas.Bool.{and_from, and_parts, both_ways, cases_Bool, not-true, not_from_false}
 use Rattle.epochs.specs.Lines.{Entry}
 use Rattle.epoch_rules.specs.declared.endings.Ending.{Ending}
 use Rattle.epoch_rules.specs.Endings.{EndingParts, EndsWith, EndsWithout, HoldsEnds, ending_cmp, ending_of, ending_seen, is_child}
@@ -14,7 +14,7 @@ use Rattle.epoch_rules.specs.KeyOrder.{parts_of, entry_cmp, have_one_key}
 use Rattle.epoch_rules.proofs.EndingOrder.{endings_total, exact_endings}
 use Rattle.epoch_rules.proofs.FamilyKeys.{has_one_key, one_key}
 use Rattle.epoch_rules.proofs.Lookups.{is_equal}
-use Rattle.epoch_rules.proofs.Members.{Has, all_has, any_has, both, false_not, has_any, not_false, same_bool}
+use Rattle.epoch_rules.proofs.Members.{Has, all_has, any_has, has_any, or_swap, or_same, same_bool}
 use Rattle.epoch_rules.proofs.Replaced.{sorted_head, sorted_tail}
 use Rattle.epoch_rules.proofs.WithLine.{any_other, any_put, others}
 
@@ -27,15 +27,6 @@ pub any_same : {X : Type 0} (p q : X → Bool) (xs : List X) → ((x : X) → Ha
 any_same p q [] same = refl
 any_same p q (x ∷ xs) same = (λ i. same x (inl refl) i || any_same p q xs (λ y h. same y (inr h)) i)
 
-or_left : (a b c : Bool) → (a || (b || c)) ≡ (b || (a || c))
-or_left true true c = refl
-or_left true false c = refl
-or_left false b c = refl
-
-or_same : (a b : Bool) → (a || b) ≡ (a || (a || b))
-or_same true b = refl
-or_same false b = refl
-
 module _ (cmp : Ending → Ending → Ordering) (is : (a b : Ending) → cmp a b ≡ ending_cmp (ending_seen a) (ending_seen b)) where
   pub any_inserted : (test : EndingParts → Bool) (ks : List Ending) (k : Ending) → list_any (λ q. test (ending_seen q)) (insert_key cmp ks k) ≡ (test (ending_seen k) || list_any (λ q. test (ending_seen q)) ks)
   any_inserted test [] k = refl
@@ -47,7 +38,7 @@ module _ (cmp : Ending → Ending → Ordering) (is : (a b : Ending) → cmp a b
         | Equal ↦ λ h.
             (let same : ending_seen k ≡ ending_seen x = exact_endings (ending_seen k) (ending_seen x) (sym (is k x) ∙ h) in
             ap (λ b. b || rest) (sym (ap test same)) ∙ or_same t rest ∙ ap (λ b. t || (b || rest)) (ap test same))
-        | Greater ↦ λ _. ap (λ b. test (ending_seen x) || b) (any_inserted test xs k) ∙ or_left (test (ending_seen x)) t rest
+        | Greater ↦ λ _. ap (λ b. test (ending_seen x) || b) (any_inserted test xs k) ∙ or_swap (test (ending_seen x)) t rest
       ] refl
 
 -- in a list in order one line has a key
@@ -128,11 +119,11 @@ module _ (cmp : Ending → Ending → Ordering) (is : (a b : Ending) → cmp a b
       let same = seen_same q.0 y.0 y.2 in
       any_has (λ q. apart (ending_seen q)) old y.0 y.1
       (subst (λ p. apart p ≡ true) same
-      (both (not (is_eq (ending_cmp (ending_seen k) (ending_seen q.0)))) (test (ending_seen q.0)) (not_false (is_eq (ending_cmp (ending_seen k) (ending_seen q.0))) (ap is_eq (sym (is k q.0)) ∙ parts.0)) q.2)))
+      (and_from (not (is_eq (ending_cmp (ending_seen k) (ending_seen q.0)))) (test (ending_seen q.0)) (not_from_false (is_eq (ending_cmp (ending_seen k) (ending_seen q.0))) (ap is_eq (sym (is k q.0)) ∙ parts.0)) q.2)))
       (λ h.
       let y = has_any (λ q. apart (ending_seen q)) old h in
       let parts = and_parts (not (is_eq (ending_cmp (ending_seen k) (ending_seen y.0)))) (test (ending_seen y.0)) y.2 in
-      let out : is_eq (cmp k y.0) ≡ false = ap is_eq (is k y.0) ∙ false_not (is_eq (ending_cmp (ending_seen k) (ending_seen y.0))) parts.0 in
+      let out : is_eq (cmp k y.0) ≡ false = ap is_eq (is k y.0) ∙ not-true (is_eq (ending_cmp (ending_seen k) (ending_seen y.0))) parts.0 in
       let there : list_any (λ x. is_eq (cmp y.0 x)) new ≡ true =
       updated y.0 ∙ ap (λ b. cond b false (list_any (λ x. is_eq (cmp y.0 x)) old)) out ∙ any_has (λ x. is_eq (cmp y.0 x)) old y.0 y.1 (itself y.0) in
       let z = has_any (λ x. is_eq (cmp y.0 x)) new there in
@@ -184,4 +175,4 @@ one_at_key p lines up e o o_in same =
     let x = has_any (λ l. have_one_key e l && p l) lines h in
     let parts = and_parts (have_one_key e x.0) (p x.0) x.2 in
     ap p (same_as lines up e o o_in same x.0 x.1 parts.0) ∙ parts.1)
-    (λ h. any_has (λ l. have_one_key e l && p l) lines o o_in (both (have_one_key e o) (p o) same h))
+    (λ h. any_has (λ l. have_one_key e l && p l) lines o o_in (and_from (have_one_key e o) (p o) same h))

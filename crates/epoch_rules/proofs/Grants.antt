@@ -1,11 +1,11 @@
 -- Which grants lose their user with one line more.
-use Rattle.std.proofs.Common.{◌≡◌, ◌∙◌, ◌==◌, Bool, true, false, not, ◌&&◌, inl, inr, List, refl, sym, ap, eq-eqb, arith}
+use Rattle.std.proofs.Common.{◌≡◌, ◌∙◌, ◌==◌, Bool, true, false, not, ◌&&◌, inl, inr, List, sym, ap, eq-eqb, arith}
 use Rattle.std.specs.List.{list_any, AllByRecursion}
 use Rattle.std.specs.Str.{bytes_eq}
 use Rattle.std.specs.Ordering.{is_eq}
 use Rattle.std.specs.Cmp.Lexicographic.{nat_list_cmp_total}
 use Rattle.std.proofs.lemmas.Cmp.{tied_itself}
-use Rattle.std.proofs.lemmas.Bool.{cases_Bool, or_cases, both_ways, and_parts, eqb-true}
+use Rattle.std.proofs.lemmas.Bool.{and_from, and_parts, both_ways, cases_Bool, eqb-true, false_from_ne_true, not-false, not-true, not_from_false, or_cases, or_left, or_right}
 use Rattle.std.proofs.lemmas.Map.Lookups.{exact_bytes}
 use Rattle.std.proofs.lemmas.Map.Text.{is_eq-slice_cmp}
 use Rattle.epochs.specs.declared.kinds.Kind.TheVariants.{Grt, Usr}
@@ -18,7 +18,7 @@ use Rattle.epoch_rules.specs.Losses.{loses_grants}
 use Rattle.epoch_rules.specs.Rules.{is_line_of, is_grantee, lacks_user, with_line}
 use Rattle.epoch_rules.proofs.FamilyKeys.{has_one_key, kind_rank, one_key, rank_kind}
 use Rattle.epoch_rules.proofs.Lookups.{is_equal}
-use Rattle.epoch_rules.proofs.Members.{Has, all_has, and_no, any_has, both, false_not, has_any, is_false, left_true, none_has, not_false, right_true, same_bool}
+use Rattle.epoch_rules.proofs.Members.{Has, all_has, and_no, any_has, has_any, none_has, same_bool}
 use Rattle.epoch_rules.proofs.Tidy.{Tidy}
 use Rattle.epoch_rules.proofs.WithLine.{any_with_line}
 
@@ -30,10 +30,6 @@ text_itself a = sym (is_eq-slice_cmp a a) ∙ ap is_eq (tied_itself nat_list_cmp
 
 five_six : rank_of Grt ≡ rank_of Usr → ⊥
 five_six h = omega (arith, h)
-
-pub not_not : (b : Bool) → not b ≡ false → b ≡ true
-not_not true h = refl
-not_not false h = sym h
 
 -- users of one name have one key
 one_user : (a b : Entry) → Tidy a → Tidy b → (parts_of a).rank ≡ rank_of Usr → (parts_of b).rank ≡ rank_of Usr → (parts_of a).first ≡ (parts_of b).first → parts_of a ≡ parts_of b
@@ -60,11 +56,11 @@ module _ (live : List Entry) (e : Entry) (is : IsCatalog live) (neat : AllByRecu
   unfolding after
   stays x u u_in h apart =
       any_with_line (is_grantee x) live e is.rises is.states
-      ∙ right_true (says e && is_grantee x e) _
-      (any_has (λ l. not (have_one_key e l) && is_grantee x l) live u u_in (both (not (have_one_key e u)) (is_grantee x u) (not_false (have_one_key e u) apart) h))
+      ∙ or_right (says e && is_grantee x e) _
+      (any_has (λ l. not (have_one_key e l) && is_grantee x l) live u u_in (and_from (not (have_one_key e u)) (is_grantee x u) (not_from_false (have_one_key e u) apart) h))
 
   user_of : (x : Entry) → lacks_user live x ≡ false → is_line_of Grt x ≡ true → (u : Entry) × Has live u × (is_grantee x u ≡ true)
-  user_of x none kind = has_any (is_grantee x) live (not_not (list_any (is_grantee x) live) (and_no (is_line_of Grt x) (not (list_any (is_grantee x) live)) none kind))
+  user_of x none kind = has_any (is_grantee x) live (not-false (list_any (is_grantee x) live) (and_no (is_line_of Grt x) (not (list_any (is_grantee x) live)) none kind))
 
   other_key : (x u : Entry) → is_line_of Grt x ≡ true → is_line_of Usr u ≡ true → have_one_key x u ≡ true → ⊥
   other_key x u x_is u_is same =
@@ -76,7 +72,7 @@ module _ (live : List Entry) (e : Entry) (is : IsCatalog live) (neat : AllByRecu
       let p = and_parts (is_line_of Grt e) (not (list_any (is_grantee e) after)) lost in
       let u = user_of e held p.0 in
       let u_is = (and_parts (is_line_of Usr u.0) (bytes_eq (parts_of u.0).first (parts_of e).first) u.2).0 in
-      both_ways (list_any (is_grantee e) after) (false_not (list_any (is_grantee e) after) p.1) (stays e u.0 u.1 u.2 (is_false (have_one_key e u.0) (other_key e u.0 p.0 u_is)))
+      both_ways (list_any (is_grantee e) after) (not-true (list_any (is_grantee e) after) p.1) (stays e u.0 u.1 u.2 (false_from_ne_true (have_one_key e u.0) (other_key e u.0 p.0 u_is)))
 
   granted : Entry → Bool
   granted x = is_line_of Grt x && bytes_eq (parts_of e).first (parts_of x).first
@@ -86,7 +82,7 @@ module _ (live : List Entry) (e : Entry) (is : IsCatalog live) (neat : AllByRecu
   unfolding after granted
   lost_granted x x_in lost =
       let p = and_parts (is_line_of Grt x) (not (list_any (is_grantee x) after)) lost in
-      let none = false_not (list_any (is_grantee x) after) p.1 in
+      let none = not-true (list_any (is_grantee x) after) p.1 in
       let u = user_of x (none_has (lacks_user live) live x rests x_in) p.0 in
       let u_is = and_parts (is_line_of Usr u.0) (bytes_eq (parts_of u.0).first (parts_of x).first) u.2 in
       let key : have_one_key e u.0 ≡ true =
@@ -98,12 +94,12 @@ module _ (live : List Entry) (e : Entry) (is : IsCatalog live) (neat : AllByRecu
       let rank : (parts_of e).rank ≡ rank_of Usr = ap (λ p. p.rank) keys ∙ kind_rank Usr u.0 u_is.0 in
       let first : bytes_eq (parts_of e).first (parts_of x).first ≡ true = ap (λ p. bytes_eq p.first (parts_of x).first) keys ∙ u_is.1 in (
         rank,
-        is_false (says e)
+        false_from_ne_true (says e)
             (λ said.
             both_ways (list_any (is_grantee x) after) none
             (any_with_line (is_grantee x) live e is.rises is.states
-            ∙ left_true (says e && is_grantee x e) _ (both (says e) (is_grantee x e) said (both (is_line_of Usr e) (bytes_eq (parts_of e).first (parts_of x).first) (rank_kind Usr e said rank) first)))),
-        both (is_line_of Grt x) (bytes_eq (parts_of e).first (parts_of x).first) p.0 first,
+            ∙ or_left (says e && is_grantee x e) _ (and_from (says e) (is_grantee x e) said (and_from (is_line_of Usr e) (bytes_eq (parts_of e).first (parts_of x).first) (rank_kind Usr e said rank) first)))),
+        and_from (is_line_of Grt x) (bytes_eq (parts_of e).first (parts_of x).first) p.0 first,
       )
 
   granted_lost : (x : Entry) → Has live x → (parts_of e).rank ≡ rank_of Usr → says e ≡ false → granted x ≡ true → lacks_user after x ≡ true
@@ -111,9 +107,9 @@ module _ (live : List Entry) (e : Entry) (is : IsCatalog live) (neat : AllByRecu
   granted_lost x x_in rank gone h =
       let p = and_parts (is_line_of Grt x) (bytes_eq (parts_of e).first (parts_of x).first) h in
       let u = user_of x (none_has (lacks_user live) live x rests x_in) p.0 in
-      both (is_line_of Grt x) (not (list_any (is_grantee x) after)) p.0
-      (not_false (list_any (is_grantee x) after)
-      (is_false (list_any (is_grantee x) after)
+      and_from (is_line_of Grt x) (not (list_any (is_grantee x) after)) p.0
+      (not_from_false (list_any (is_grantee x) after)
+      (false_from_ne_true (list_any (is_grantee x) after)
       (λ some.
       elim (or_cases (says e && is_grantee x e) (list_any (λ l. not (have_one_key e l) && is_grantee x l) live) (sym (any_with_line (is_grantee x) live e is.rises is.states) ∙ some)) [
         | inl here ↦ both_ways (says e) gone (and_parts (says e) (is_grantee x e) here).0
@@ -123,7 +119,7 @@ module _ (live : List Entry) (e : Entry) (is : IsCatalog live) (neat : AllByRecu
             let v_is = and_parts (is_line_of Usr v.0) (bytes_eq (parts_of v.0).first (parts_of x).first) r.1 in
             let first = same_text (parts_of e).first (parts_of x).first p.1 ∙ sym (same_text (parts_of v.0).first (parts_of x).first v_is.1) in
             let keys = one_user e v.0 tidy_e (all_has Tidy live v.0 neat v.1) rank (kind_rank Usr v.0 v_is.0) first in
-            both_ways (have_one_key e v.0) (false_not (have_one_key e v.0) r.0) (has_one_key e v.0 keys))
+            both_ways (have_one_key e v.0) (not-true (have_one_key e v.0) r.0) (has_one_key e v.0 keys))
       ])))
 
   -- with the line, a grant lacks its user exactly if the line deletes that
@@ -137,8 +133,8 @@ module _ (live : List Entry) (e : Entry) (is : IsCatalog live) (neat : AllByRecu
         | inr there ↦
             (let x = has_any (λ l. not (have_one_key e l) && lacks_user after l) live there in
             let h = lost_granted x.0 x.1 (and_parts (not (have_one_key e x.0)) (lacks_user after x.0) x.2).1 in
-            both ((parts_of e).rank == rank_of Usr && not (says e)) (list_any granted live)
-            (both ((parts_of e).rank == rank_of Usr) (not (says e)) (eq-eqb (parts_of e).rank (rank_of Usr) h.0) (not_false (says e) h.1)) (any_has granted live x.0 x.1 h.2))
+            and_from ((parts_of e).rank == rank_of Usr && not (says e)) (list_any granted live)
+            (and_from ((parts_of e).rank == rank_of Usr) (not (says e)) (eq-eqb (parts_of e).rank (rank_of Usr) h.0) (not_from_false (says e) h.1)) (any_has granted live x.0 x.1 h.2))
       ])
       (λ some.
       let p = and_parts ((parts_of e).rank == rank_of Usr && not (says e)) (list_any granted live) some in
@@ -146,8 +142,8 @@ module _ (live : List Entry) (e : Entry) (is : IsCatalog live) (neat : AllByRecu
       let rank = eqb-true (parts_of e).rank (rank_of Usr) q.0 in
       let x = has_any granted live p.1 in
       let kind = (and_parts (is_line_of Grt x.0) (bytes_eq (parts_of e).first (parts_of x.0).first) x.2).0 in
-      let apart = is_false (have_one_key e x.0) (λ same. five_six (sym (kind_rank Grt x.0 kind) ∙ sym (ap (λ p. p.rank) (one_key e x.0 same)) ∙ rank)) in
+      let apart = false_from_ne_true (have_one_key e x.0) (λ same. five_six (sym (kind_rank Grt x.0 kind) ∙ sym (ap (λ p. p.rank) (one_key e x.0 same)) ∙ rank)) in
       any_with_line (lacks_user after) live e is.rises is.states
-      ∙ right_true (says e && lacks_user after e) _
+      ∙ or_right (says e && lacks_user after e) _
       (any_has (λ l. not (have_one_key e l) && lacks_user after l) live x.0 x.1
-      (both (not (have_one_key e x.0)) (lacks_user after x.0) (not_false (have_one_key e x.0) apart) (granted_lost x.0 x.1 rank (false_not (says e) q.1) x.2))))
+      (and_from (not (have_one_key e x.0)) (lacks_user after x.0) (not_from_false (have_one_key e x.0) apart) (granted_lost x.0 x.1 rank (not-true (says e) q.1) x.2))))

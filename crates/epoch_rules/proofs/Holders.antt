@@ -1,8 +1,8 @@
 -- Which lines lose what they rest on with one line more: containers.
-use Rattle.std.proofs.Common.{◌≡◌, ◌∙◌, ◌==◌, Bool, true, false, not, ◌&&◌, inl, inr, List, Some, if◌then◌else◌, refl, sym, ap, eq-eqb}
+use Rattle.std.proofs.Common.{◌≡◌, ◌∙◌, ◌==◌, Bool, true, false, not, ◌&&◌, inl, inr, List, Some, if◌then◌else◌, sym, ap, eq-eqb}
 use Rattle.std.specs.Prelude.{int_le}
 use Rattle.std.specs.List.{list_any, AllByRecursion}
-use Rattle.std.proofs.lemmas.Bool.{cases_Bool, or_cases, both_ways, and_parts, eqb-true}
+use Rattle.std.proofs.lemmas.Bool.{and_from, and_parts, both_ways, cases_Bool, eqb-true, false_from_ne_true, not-false, not-true, not_from_false, or_cases, or_left, or_right}
 use Rattle.epochs.specs.declared.kinds.Kind.{Kind}
 use Rattle.epochs.specs.Lines.{Entry, end_of}
 use Rattle.epoch_rules.specs.Catalog.{IsCatalog}
@@ -10,10 +10,11 @@ use Rattle.std.specs.Ordering.{is_eq}
 use Rattle.epoch_rules.specs.KeyOrder.{KeyParts, parts_of, parts_cmp, have_one_key, rank_of}
 use Rattle.epoch_rules.specs.LiveLines.{says}
 use Rattle.epoch_rules.specs.Losses.{new_end, is_cut, loses}
-use Rattle.epoch_rules.specs.Rules.{is_line_of, is_epoch, epoch_start, is_before_end, ends_by, overlap, contains, have_one_family, is_rival, has_rival, with_line}
+use Rattle.epoch_rules.specs.Rules.{is_line_of, is_epoch, epoch_start, is_before_end, ends_by, overlap, contains, have_one_family, with_line}
 use Rattle.epoch_rules.proofs.Ends.{before_ends, earlier_before, ends_at, ends_before, ends_itself, ends_trans, moment_ends}
 use Rattle.epoch_rules.proofs.FamilyKeys.{has_one_key, kind_rank, one_key, rank_kind}
-use Rattle.epoch_rules.proofs.Members.{Has, all_has, and_no, any_has, both, false_not, has_any, is_false, left_true, none_has, not_false, right_true, same_bool}
+use Rattle.epoch_rules.proofs.Members.{Has, all_has, and_first, and_no, any_has, has_any, none_has, same_bool}
+use Rattle.epoch_rules.proofs.NearRivals.{lie_apart}
 use Rattle.epoch_rules.proofs.Tidy.{Tidy}
 use Rattle.epoch_rules.proofs.WithLine.{any_with_line}
 
@@ -46,19 +47,12 @@ module _ (outer inner : Kind) (codes : KeyParts → KeyParts → Bool)
 
   closed : (x c : Entry) → is_line_of outer c ≡ true → codes (parts_of c) (parts_of x) ≡ true → int_le (epoch_start c) (epoch_start x) ≡ true → ends_by (end_of x.values) (end_of c.values) ≡ true → holds outer inner codes x c ≡ true
   closed x c kind same start stop =
-      both (is_line_of outer c && codes (parts_of c) (parts_of x)) (contains c x) (both (is_line_of outer c) (codes (parts_of c) (parts_of x)) kind same) (both (int_le (epoch_start c) (epoch_start x)) (ends_by (end_of x.values) (end_of c.values)) start stop)
+      and_from (is_line_of outer c && codes (parts_of c) (parts_of x)) (contains c x) (and_from (is_line_of outer c) (codes (parts_of c) (parts_of x)) kind same) (and_from (int_le (epoch_start c) (epoch_start x)) (ends_by (end_of x.values) (end_of c.values)) start stop)
 
   -- lines of the two kinds have different keys
   other_key : (c : Entry) → is_line_of outer c ≡ true → (x : Entry) → is_line_of inner x ≡ true → have_one_key x c ≡ false
   other_key c c_is x x_is =
-      is_false (have_one_key x c) (λ same. kinds_differ (sym (kind_rank outer c c_is) ∙ sym (ap (λ p. p.rank) (one_key x c same)) ∙ kind_rank inner x x_is))
-
-  -- live epochs of one family with different keys don't overlap
-  no_overlap : (a b : Entry) → Has live a → Has live b → is_epoch a ≡ true → have_one_family a b ≡ true → have_one_key a b ≡ false → overlap a b ≡ false
-  no_overlap a b a_in b_in epoch same apart =
-      let none = and_no (is_epoch a) (list_any (is_rival a) live) (none_has (has_rival live) live a is.apart a_in) epoch in
-      and_no (have_one_family a b && not (have_one_key a b)) (overlap a b) (none_has (is_rival a) live b none b_in)
-      (both (have_one_family a b) (not (have_one_key a b)) same (not_false (have_one_key a b) apart))
+      false_from_ne_true (have_one_key x c) (λ same. kinds_differ (sym (kind_rank outer c c_is) ∙ sym (ap (λ p. p.rank) (one_key x c same)) ∙ kind_rank inner x x_is))
 
   -- a live line of the inner kind has one live container alone
   one_holder : (x a b : Entry) → Has live x → Has live a → Has live b → is_line_of inner x ≡ true → Held x a → Held x b → have_one_key a b ≡ true
@@ -69,24 +63,20 @@ module _ (outer inner : Kind) (codes : KeyParts → KeyParts → Bool)
         | inr apart ↦
             (let forward = (all_has Tidy live x neat x_in).forward (inner_epoch x kind) in
             let over : overlap a b ≡ true =
-            both (is_before_end (epoch_start a) (end_of b.values)) (is_before_end (epoch_start b) (end_of a.values))
+            and_from (is_before_end (epoch_start a) (end_of b.values)) (is_before_end (epoch_start b) (end_of a.values))
             (before_ends (epoch_start a) (end_of x.values) (end_of b.values) (earlier_before (epoch_start a) (epoch_start x) (end_of x.values) h.2 forward) k.3)
             (before_ends (epoch_start b) (end_of x.values) (end_of a.values) (earlier_before (epoch_start b) (epoch_start x) (end_of x.values) k.2 forward) h.3) in
             absurd (both_ways (overlap a b)
-            (no_overlap a b a_in b_in (outer_epoch a h.0) (family a b x (all_has Tidy live a neat a_in) (all_has Tidy live b neat b_in) h.0 k.0 h.1 k.1) apart) over))
+            (lie_apart live is neat a b a_in b_in (outer_epoch a h.0) (family a b x (all_has Tidy live a neat a_in) (all_has Tidy live b neat b_in) h.0 k.0 h.1 k.1) apart) over))
       ]
 
   -- each live line of the inner kind has a live container
   holder : (x : Entry) → Has live x → is_line_of inner x ≡ true → (c : Entry) × Has live c × Held x c
   holder x x_in kind =
       let none = and_no (is_line_of inner x) (not (list_any (holds outer inner codes x) live)) (none_has (lacks outer inner codes live) live x rests x_in) kind in
-      let some : list_any (holds outer inner codes x) live ≡ true = not_not (list_any (holds outer inner codes x) live) none in
+      let some : list_any (holds outer inner codes x) live ≡ true = not-false (list_any (holds outer inner codes x) live) none in
       let found = has_any (holds outer inner codes x) live some in
       (found.0, found.1, opened x found.0 found.2)
-    where
-      not_not : (b : Bool) → not b ≡ false → b ≡ true
-      not_not true h = refl
-      not_not false h = sym h
 
   after : List Entry
   after = with_line live e
@@ -96,15 +86,15 @@ module _ (outer inner : Kind) (codes : KeyParts → KeyParts → Bool)
   unfolding Held after
   stays x c c_in h apart =
       any_with_line (holds outer inner codes x) live e is.rises is.states
-      ∙ right_true (says e && holds outer inner codes x e) _
+      ∙ or_right (says e && holds outer inner codes x e) _
       (any_has (λ l. not (have_one_key e l) && holds outer inner codes x l) live c c_in
-      (both (not (have_one_key e c)) (holds outer inner codes x c) (not_false (have_one_key e c) apart) (closed x c h.0 h.1 h.2 h.3)))
+      (and_from (not (have_one_key e c)) (holds outer inner codes x c) (not_from_false (have_one_key e c) apart) (closed x c h.0 h.1 h.2 h.3)))
 
   new_holds : (x : Entry) → says e ≡ true → holds outer inner codes x e ≡ true → list_any (holds outer inner codes x) after ≡ true
   unfolding after
   new_holds x said h =
       any_with_line (holds outer inner codes x) live e is.rises is.states
-      ∙ left_true (says e && holds outer inner codes x e) _ (both (says e) (holds outer inner codes x e) said h)
+      ∙ or_left (says e && holds outer inner codes x e) _ (and_from (says e) (holds outer inner codes x e) said h)
 
   -- what isn't held any more
   Lost : Entry → Type 0
@@ -115,20 +105,12 @@ module _ (outer inner : Kind) (codes : KeyParts → KeyParts → Bool)
   unfolding Lost Held
   not_itself said lost =
       let none = and_no (is_line_of inner e) (not (list_any (holds outer inner codes e) live)) held lost.0 in
-      let some = has_any (holds outer inner codes e) live (not_not (list_any (holds outer inner codes e) live) none) in
+      let some = has_any (holds outer inner codes e) live (not-false (list_any (holds outer inner codes e) live) none) in
       let h = opened e some.0 some.2 in
       both_ways (list_any (holds outer inner codes e) after) lost.1 (stays e some.0 some.1 h (other_key some.0 h.0 e lost.0))
-    where
-      not_not : (b : Bool) → not b ≡ false → b ≡ true
-      not_not true h = refl
-      not_not false h = sym h
 
   start_key : (c : Entry) → Tidy c → is_line_of outer c ≡ true → have_one_key e c ≡ true → epoch_start c ≡ (parts_of e).start
   start_key c neat_c kind same = neat_c.starts (outer_epoch c kind) ∙ sym (ap (λ p. p.start) (one_key e c same))
-
-  and_first : (a b : Bool) → (a && b) ≡ false → b ≡ true → a ≡ false
-  and_first true b h k = sym k ∙ h
-  and_first false b h k = refl
 
   -- the line's new end isn't before its start
   start_first : (parts_of e).rank ≡ rank_of outer → ends_by (Some (parts_of e).start) (new_end e) ≡ true
@@ -161,7 +143,7 @@ module _ (outer inner : Kind) (codes : KeyParts → KeyParts → Bool)
               let o_codes : codes (parts_of o) (parts_of x) ≡ true = sym (ap (λ p. codes p (parts_of x)) keys) ∙ same in
               let o_neat = all_has Tidy live o neat o_in in
               let c_neat = all_has Tidy live c neat c_in in
-              let none = no_overlap o c o_in c_in (outer_epoch o o_is) (family o c x o_neat c_neat o_is h.0 o_codes h.1) o_apart in
+              let none = lie_apart live is neat o c o_in c_in (outer_epoch o o_is) (family o c x o_neat c_neat o_is h.0 o_codes h.1) o_apart in
               let later = before_ends (epoch_start c) (end_of x.values) (end_of o.values) (earlier_before (epoch_start c) (epoch_start x) (end_of x.values) h.2 forward) within in
               let stop = ends_at (epoch_start o) (end_of c.values) (and_first (is_before_end (epoch_start o) (end_of c.values)) (is_before_end (epoch_start c) (end_of o.values)) none later) in
               let at_start : ends_by (end_of x.values) (Some (parts_of e).start) ≡ true =
@@ -175,13 +157,13 @@ module _ (outer inner : Kind) (codes : KeyParts → KeyParts → Bool)
         let p = and_parts (is_line_of inner x && codes (parts_of e) (parts_of x) && not (ends_by (end_of x.values) (new_end e))) _ cut in
         let q = and_parts (is_line_of inner x && codes (parts_of e) (parts_of x)) (not (ends_by (end_of x.values) (new_end e))) p.0 in
         let same = (and_parts (is_line_of inner x) (codes (parts_of e) (parts_of x)) q.0).1 in
-        let behind = false_not (ends_by (end_of x.values) (new_end e)) q.1 in
+        let behind = not-true (ends_by (end_of x.values) (new_end e)) q.1 in
         let o = has_any (λ l. have_one_key e l && ends_by (end_of x.values) (end_of l.values)) live p.1 in
         let o_is = and_parts (have_one_key e o.0) (ends_by (end_of x.values) (end_of o.0.values)) o.2 in
         let c = holder x x_in kind in
         let key = cut_holder c.0 o.0 c.1 o.1 c.2 rank same behind o_is.0 o_is.1 in (
           kind,
-          is_false (list_any (holds outer inner codes x) after)
+          false_from_ne_true (list_any (holds outer inner codes x) after)
               (λ some.
               elim (or_cases (says e && holds outer inner codes x e) (list_any (λ l. not (have_one_key e l) && holds outer inner codes x l) live) (sym (any_with_line (holds outer inner codes x) live e is.rises is.states) ∙ some)) [
                 | inl here ↦
@@ -192,7 +174,7 @@ module _ (outer inner : Kind) (codes : KeyParts → KeyParts → Bool)
                     (let d = has_any (λ l. not (have_one_key e l) && holds outer inner codes x l) live there in
                     let r = and_parts (not (have_one_key e d.0)) (holds outer inner codes x d.0) d.2 in
                     let alike = one_holder x c.0 d.0 x_in c.1 d.1 kind c.2 (opened x d.0 r.1) in
-                    both_ways (have_one_key e d.0) (false_not (have_one_key e d.0) r.0) (has_one_key e d.0 (one_key e c.0 key ∙ one_key c.0 d.0 alike)))
+                    both_ways (have_one_key e d.0) (not-true (have_one_key e d.0) r.0) (has_one_key e d.0 (one_key e c.0 key ∙ one_key c.0 d.0 alike)))
               ]),
         )
 
@@ -211,7 +193,7 @@ module _ (outer inner : Kind) (codes : KeyParts → KeyParts → Bool)
         let same : codes (parts_of e) (parts_of x) ≡ true = ap (λ p. codes p (parts_of x)) keys ∙ h.1 in
         let start : epoch_start c.0 ≡ (parts_of e).start = start_key c.0 (all_has Tidy live c.0 neat c.1) h.0 key in
         let behind : ends_by (end_of x.values) (new_end e) ≡ false =
-        is_false (ends_by (end_of x.values) (new_end e))
+        false_from_ne_true (ends_by (end_of x.values) (new_end e))
         (λ within.
         elim (cases_Bool (says e)) [
           | inl said ↦
@@ -225,20 +207,20 @@ module _ (outer inner : Kind) (codes : KeyParts → KeyParts → Bool)
               both_ways (ends_by (end_of x.values) (Some (epoch_start c.0))) (ends_before (epoch_start c.0) (end_of x.values) (earlier_before (epoch_start c.0) (epoch_start x) (end_of x.values) h.2 forward)) stop)
         ]) in (
           rank,
-          both (is_line_of inner x && codes (parts_of e) (parts_of x) && not (ends_by (end_of x.values) (new_end e))) _
-              (both (is_line_of inner x && codes (parts_of e) (parts_of x)) (not (ends_by (end_of x.values) (new_end e))) (both (is_line_of inner x) (codes (parts_of e) (parts_of x)) kind same) (not_false (ends_by (end_of x.values) (new_end e)) behind))
-              (any_has (λ o. have_one_key e o && ends_by (end_of x.values) (end_of o.values)) live c.0 c.1 (both (have_one_key e c.0) (ends_by (end_of x.values) (end_of c.0.values)) key h.3)),
+          and_from (is_line_of inner x && codes (parts_of e) (parts_of x) && not (ends_by (end_of x.values) (new_end e))) _
+              (and_from (is_line_of inner x && codes (parts_of e) (parts_of x)) (not (ends_by (end_of x.values) (new_end e))) (and_from (is_line_of inner x) (codes (parts_of e) (parts_of x)) kind same) (not_from_false (ends_by (end_of x.values) (new_end e)) behind))
+              (any_has (λ o. have_one_key e o && ends_by (end_of x.values) (end_of o.values)) live c.0 c.1 (and_from (have_one_key e c.0) (ends_by (end_of x.values) (end_of c.0.values)) key h.3)),
         )
 
   lost_from : (x : Entry) → lacks outer inner codes after x ≡ true → Lost x
   unfolding Lost
   lost_from x h =
       let p = and_parts (is_line_of inner x) (not (list_any (holds outer inner codes x) after)) h in
-      (p.0, false_not (list_any (holds outer inner codes x) after) p.1)
+      (p.0, not-true (list_any (holds outer inner codes x) after) p.1)
 
   from_lost : (x : Entry) → Lost x → lacks outer inner codes after x ≡ true
   unfolding Lost
-  from_lost x lost = both (is_line_of inner x) (not (list_any (holds outer inner codes x) after)) lost.0 (not_false (list_any (holds outer inner codes x) after) lost.1)
+  from_lost x lost = and_from (is_line_of inner x) (not (list_any (holds outer inner codes x) after)) lost.0 (not_from_false (list_any (holds outer inner codes x) after) lost.1)
 
   -- with the line, a line lacks its container exactly if it is cut
   pub loses_containers : list_any (lacks outer inner codes (with_line live e)) (with_line live e) ≡ loses outer inner codes live e
@@ -252,15 +234,15 @@ module _ (outer inner : Kind) (codes : KeyParts → KeyParts → Bool)
             (let x = has_any (λ l. not (have_one_key e l) && lacks outer inner codes after l) live there in
             let lost = lost_from x.0 (and_parts (not (have_one_key e x.0)) (lacks outer inner codes after x.0) x.2).1 in
             let cut = lost_cut x.0 x.1 lost.0 lost in
-            both ((parts_of e).rank == rank_of outer) (list_any (is_cut inner codes live e) live) (eq-eqb (parts_of e).rank (rank_of outer) cut.0) (any_has (is_cut inner codes live e) live x.0 x.1 cut.1))
+            and_from ((parts_of e).rank == rank_of outer) (list_any (is_cut inner codes live e) live) (eq-eqb (parts_of e).rank (rank_of outer) cut.0) (any_has (is_cut inner codes live e) live x.0 x.1 cut.1))
       ])
       (λ some.
       let p = and_parts ((parts_of e).rank == rank_of outer) (list_any (is_cut inner codes live e) live) some in
       let rank = eqb-true (parts_of e).rank (rank_of outer) p.0 in
       let x = has_any (is_cut inner codes live e) live p.1 in
       let kind = (and_parts (is_line_of inner x.0) (codes (parts_of e) (parts_of x.0)) (and_parts (is_line_of inner x.0 && codes (parts_of e) (parts_of x.0)) (not (ends_by (end_of x.0.values) (new_end e))) (and_parts (is_line_of inner x.0 && codes (parts_of e) (parts_of x.0) && not (ends_by (end_of x.0.values) (new_end e))) _ x.2).0).0).0 in
-      let apart = is_false (have_one_key e x.0) (λ same. kinds_differ (sym rank ∙ ap (λ q. q.rank) (one_key e x.0 same) ∙ kind_rank inner x.0 kind)) in
+      let apart = false_from_ne_true (have_one_key e x.0) (λ same. kinds_differ (sym rank ∙ ap (λ q. q.rank) (one_key e x.0 same) ∙ kind_rank inner x.0 kind)) in
       any_with_line (lacks outer inner codes after) live e is.rises is.states
-      ∙ right_true (says e && lacks outer inner codes after e) _
+      ∙ or_right (says e && lacks outer inner codes after e) _
       (any_has (λ l. not (have_one_key e l) && lacks outer inner codes after l) live x.0 x.1
-      (both (not (have_one_key e x.0)) (lacks outer inner codes after x.0) (not_false (have_one_key e x.0) apart) (from_lost x.0 (cut_lost x.0 x.1 kind rank x.2)))))
+      (and_from (not (have_one_key e x.0)) (lacks outer inner codes after x.0) (not_from_false (have_one_key e x.0) apart) (from_lost x.0 (cut_lost x.0 x.1 kind rank x.2)))))

@@ -23,7 +23,9 @@ use Rattle.epoch_rules.specs.Rules.{broken_rule, common_rule, has_rival, have_on
 use Rattle.epoch_rules.proofs.LiveByKey.{live_again, live_lines_go_on, live_says, live_sorted}
 use Rattle.epoch_rules.proofs.Lookups.{empty_sorted, is_equal}
 use Rattle.epoch_rules.proofs.Orders.{entries_total, family_total}
-use Rattle.epoch_rules.proofs.WithLine.{any_with_line, false_from, other_or}
+use Rattle.epoch_rules.proofs.WithLine.{any_with_line}
+use Rattle.epoch_rules.proofs.Members.{and_no}
+use Rattle.std.proofs.lemmas.Bool.{false_from_ne_true, or_from, or_parts}
 
 pub then_equal : (a b : Ordering) → ordering_then a b ≡ Equal → (a ≡ Equal) × (b ≡ Equal)
 then_equal Less b h = (cc)
@@ -94,7 +96,7 @@ rival_is_epoch l e l_says e_says h =
 
 pub all_not : {X : Type 0} (p : X → Bool) (xs : List X) → list_any p xs ≡ false → AllByRecursion (λ x. p x ≡ false) xs
 all_not p [] h = tt
-all_not p (x ∷ xs) h = let parts = other_or (p x) (list_any p xs) h in (parts.0, all_not p xs parts.1)
+all_not p (x ∷ xs) h = let parts = or_parts (p x) (list_any p xs) h in (parts.0, all_not p xs parts.1)
 
 pub none_of : {X : Type 0} (p : X → Bool) (xs : List X) → AllByRecursion (λ x. p x ≡ false) xs → list_any p xs ≡ false
 none_of p [] all = refl
@@ -107,21 +109,13 @@ all_three P Q S T f (x ∷ xs) p q s = (f x p.0 q.0 s.0, all_three P Q S T f xs 
 fewer : {X : Type 0} (n p : X → Bool) (xs : List X) → list_any p xs ≡ false → list_any (λ x. n x && p x) xs ≡ false
 fewer n p [] h = refl
 fewer n p (x ∷ xs) h =
-    let parts = other_or (p x) (list_any p xs) h in
+    let parts = or_parts (p x) (list_any p xs) h in
     let here : (n x && p x) ≡ false = ap (λ b. n x && b) parts.0 ∙ and_turned (n x) false in
     ap (λ b. b || list_any (λ x. n x && p x) xs) here ∙ fewer n p xs parts.1
 
 and_false : (a b : Bool) → (a ≡ true → b ≡ false) → (a && b) ≡ false
 and_false true b f = f refl
 and_false false b f = refl
-
-or_false : (a b : Bool) → a ≡ false → b ≡ false → (a || b) ≡ false
-or_false true b h k = (cc)
-or_false false b h k = k
-
-and_no : (a b : Bool) → (a && b) ≡ false → a ≡ true → b ≡ false
-and_no true b h e = h
-and_no false b h e = (cc)
 
 module _ (live : List Entry) (e : Entry) (h : IsCatalog live) (clear : has_rival live e ≡ false) where
   after : List Entry
@@ -130,7 +124,7 @@ module _ (live : List Entry) (e : Entry) (h : IsCatalog live) (clear : has_rival
   others_clear : (l : Entry) → is_epoch l ≡ true → list_any (is_rival l) live ≡ false → (says e && is_rival l e) ≡ false → list_any (is_rival l) after ≡ false
   unfolding after
   others_clear l epoch none here =
-      any_with_line (is_rival l) live e h.rises h.states ∙ or_false _ _ here (fewer (λ m. not (have_one_key e m)) (is_rival l) live none)
+      any_with_line (is_rival l) live e h.rises h.states ∙ or_from _ _ here (fewer (λ m. not (have_one_key e m)) (is_rival l) live none)
 
   -- a line that was there has no rival
   old_clear : (l : Entry) → says l ≡ true → has_rival live l ≡ false → (is_epoch e && is_rival e l) ≡ false → (not (have_one_key e l) && has_rival after l) ≡ false
@@ -142,7 +136,7 @@ module _ (live : List Entry) (e : Entry) (h : IsCatalog live) (clear : has_rival
       others_clear l epoch (and_no (is_epoch l) (list_any (is_rival l) live) none epoch)
       (and_false (says e) (is_rival l e)
       (λ e_says.
-      false_from (is_rival l e)
+      false_from_ne_true (is_rival l e)
       (λ rival.
       let turned : is_rival e l ≡ true = rival_turned e l ∙ rival in
       let e_epoch : is_epoch e ≡ true = sym (rival_is_epoch l e stated e_says rival) ∙ epoch in
@@ -172,7 +166,7 @@ module _ (live : List Entry) (e : Entry) (h : IsCatalog live) (clear : has_rival
   unfolding after
   still_apart =
       any_with_line (has_rival after) live e h.rises h.states
-      ∙ or_false _ _ (and_false (says e) (has_rival after e) (λ _. new_clear))
+      ∙ or_from _ _ (and_false (says e) (has_rival after e) (λ _. new_clear))
       (none_of (λ l. not (have_one_key e l) && has_rival after l) live
       (all_three (λ l. says l ≡ true) (λ l. has_rival live l ≡ false) (λ l. (is_epoch e && is_rival e l) ≡ false) (λ l. (not (have_one_key e l) && has_rival after l) ≡ false)
       old_clear live h.states (all_not (has_rival live) live h.apart) each_fresh))

@@ -1,4 +1,5 @@
 pub mod BetweenEnds
+pub mod ByKey
 pub mod CheckSteps
 pub mod CommonRule
 pub mod Containers
@@ -13,6 +14,7 @@ pub mod Examples
 pub mod FamilyKeys
 pub mod Grants
 pub mod Holders
+pub mod IndexSteps
 pub mod KeptCatalog
 pub mod LastLine
 pub mod LinesBetween

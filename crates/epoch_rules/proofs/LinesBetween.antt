@@ -39,6 +39,10 @@ first_looked_up test passes same (e ∷ es) all =
     subst (λ b. IsFirstOf (cond b (line_at e ∷ filter passes (map line_at es)) (filter passes (map line_at es))) (cond (test e.0) (Some e.1) (lookup test es))) (same e all.0)
     (first_of test passes e es (test e.0) (first_looked_up test passes same es all.1))
 
+and_true : (b : Bool) → (b && true) ≡ b
+and_true true = refl
+and_true false = refl
+
 module _ (cmp : KeyView → KeyView → Ordering) (is : (a b : KeyView) → cmp a b ≡ parts_cmp (view_seen a) (view_seen b)) (key : KeyView) (es : List Pair) (all : AllByRecursion IsKeyed es) where
   pub lines_below : filter (is_below_key (view_seen key)) (map line_at es) ≡ map line_at (entries_between cmp Unbounded (Excluded key) es)
   lines_below = sym (lines_between (λ k. not (is_le (cmp key k))) (is_below_key (view_seen key)) (λ e keyed. ap (λ r. not (is_le r)) (compares cmp is key e keyed)) es all)
@@ -48,17 +52,9 @@ module _ (cmp : KeyView → KeyView → Ordering) (is : (a b : KeyView) → cmp 
 
   pub lines_above : filter (is_above_key (view_seen key)) (map line_at es) ≡ map line_at (entries_between cmp (Excluded key) Unbounded es)
   lines_above = sym (lines_between (λ k. is_lt (cmp key k) && true) (is_above_key (view_seen key)) (λ e keyed. ap (λ r. is_lt r && true) (compares cmp is key e keyed) ∙ and_true (is_lt (parts_cmp (view_seen key) (parts_of (line_at e))))) es all)
-    where
-      and_true : (b : Bool) → (b && true) ≡ b
-      and_true true = refl
-      and_true false = refl
 
   pub lines_from : filter (is_from_key (view_seen key)) (map line_at es) ≡ map line_at (entries_between cmp (Included key) Unbounded es)
   lines_from = sym (lines_between (λ k. is_le (cmp key k) && true) (is_from_key (view_seen key)) (λ e keyed. ap (λ r. is_le r && true) (compares cmp is key e keyed) ∙ and_true (is_le (parts_cmp (view_seen key) (parts_of (line_at e))))) es all)
-    where
-      and_true : (b : Bool) → (b && true) ≡ b
-      and_true true = refl
-      and_true false = refl
 
   pub line_of_key : IsFirstOf (filter (is_at_key (view_seen key)) (map line_at es)) (lookup (λ k. is_eq (cmp key k)) es)
   line_of_key = first_looked_up (λ k. is_eq (cmp key k)) (is_at_key (view_seen key)) (λ e keyed. ap is_eq (compares cmp is key e keyed)) es all

@@ -1,5 +1,5 @@
 -- Which elements of a list pass a test.
-use Rattle.std.proofs.Common.{◌≡◌, ◌∙◌, Bool, true, false, not, ◌||◌, ◌&&◌, ◌⊎◌, inl, inr, List, [], ◌∷◌, refl, sym, ap, subst}
+use Rattle.std.proofs.Common.{◌≡◌, ◌∙◌, Bool, true, false, ◌||◌, ◌&&◌, ◌⊎◌, inl, inr, List, [], ◌∷◌, refl, sym, ap, subst}
 use Rattle.std.specs.List.{list_any, AllByRecursion}
 use Rattle.std.proofs.lemmas.Bool.{cases_Bool, or_cases, both_ways}
 
@@ -47,30 +47,18 @@ same_bool true b f g = sym (f refl)
 same_bool false true f g = g refl
 same_bool false false f g = refl
 
-pub both : (a b : Bool) → a ≡ true → b ≡ true → (a && b) ≡ true
-both a b h k = ap (λ c. c && b) h ∙ k
-
-pub is_false : (b : Bool) → (b ≡ true → ⊥) → b ≡ false
-is_false true f = absurd (f refl)
-is_false false f = refl
-
-pub not_false : (b : Bool) → b ≡ false → not b ≡ true
-not_false b h = ap not h
-
-pub false_not : (b : Bool) → not b ≡ true → b ≡ false
-false_not true h = sym h
-false_not false h = refl
-
-pub either_false : (a b : Bool) → (a || b) ≡ false → (a ≡ false) × (b ≡ false)
-either_false true b h = cc
-either_false false b h = (refl, h)
-
 pub and_no : (a b : Bool) → (a && b) ≡ false → a ≡ true → b ≡ false
 and_no a b h is = sym (ap (λ c. c && b) is) ∙ h
 
-pub left_true : (a b : Bool) → a ≡ true → (a || b) ≡ true
-left_true a b h = ap (λ c. c || b) h
+pub and_first : (a b : Bool) → (a && b) ≡ false → b ≡ true → a ≡ false
+and_first true b h k = sym k ∙ h
+and_first false b h k = refl
 
-pub right_true : (a b : Bool) → b ≡ true → (a || b) ≡ true
-right_true true b h = refl
-right_true false b h = h
+pub or_swap : (a b c : Bool) → (a || (b || c)) ≡ (b || (a || c))
+or_swap true true c = refl
+or_swap true false c = refl
+or_swap false b c = refl
+
+pub or_same : (a b : Bool) → (a || b) ≡ (a || (a || b))
+or_same true b = refl
+or_same false b = refl

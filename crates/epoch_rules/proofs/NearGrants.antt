@@ -10,7 +10,7 @@ use Rattle.std.specs.Cmp.{IsTotalOrder}
 use Rattle.std.specs.Cmp.Lexicographic.{nat_list_cmp_total}
 use Rattle.std.proofs.lemmas.Int.{ints}
 use Rattle.std.proofs.lemmas.Cmp.{int_ranked, tied_itself, then_total, nat_cmp_total}
-use Rattle.std.proofs.lemmas.Bool.{both_ways, and_parts}
+use Rattle.std.proofs.lemmas.Bool.{and_from, and_parts, both_ways}
 use Rattle.std.proofs.lemmas.Map.Lookups.{exact_unsigned, exact_bytes}
 use Rattle.epochs.specs.declared.kinds.Kind.TheVariants.{Grt}
 use Rattle.epochs.specs.declared.line.Line.{Line}
@@ -26,9 +26,9 @@ use Rattle.epoch_rules.specs.Rules.{is_line_of}
 use Rattle.epoch_rules.proofs.FamilyKeys.{kind_rank, rank_kind}
 use Rattle.epoch_rules.proofs.Grants.{same_text, text_itself}
 use Rattle.epoch_rules.proofs.KeptCatalog.{then_equal}
-use Rattle.epoch_rules.proofs.Members.{Has, all_has, any_has, both, has_any, same_bool}
+use Rattle.epoch_rules.proofs.Members.{Has, all_has, any_has, has_any, same_bool}
 use Rattle.epoch_rules.proofs.Nearest.{first_there, from_first, none_there}
-use Rattle.epoch_rules.proofs.Orders.{parts_total, total_on}
+use Rattle.epoch_rules.proofs.Orders.{parts_total, then_assoc, total_on}
 use Rattle.epoch_rules.proofs.Tidy.{Tidy}
 
 -- by kind and user
@@ -45,11 +45,6 @@ tail_cmp a b =
 head_total : IsTotalOrder head_cmp
 unfolding head_cmp
 head_total = then_total (total_on (λ (p : KeyParts). p.rank) nat_cmp_total) (total_on (λ (p : KeyParts). p.first) nat_list_cmp_total)
-
-then_assoc : (a b c : Ordering) → ordering_then (ordering_then a b) c ≡ ordering_then a (ordering_then b c)
-then_assoc Less b c = refl
-then_assoc Equal b c = refl
-then_assoc Greater b c = refl
 
 by_head : (a b : KeyParts) → parts_cmp a b ≡ ordering_then (head_cmp a b) (tail_cmp a b)
 unfolding head_cmp tail_cmp
@@ -120,7 +115,7 @@ module _ (live : List Entry) (is : IsCatalog live) (neat : AllByRecursion Tidy l
       let parts = then_equal (nat_cmp 5 (parts_of n).rank) (text_cmp user (parts_of n).first) head in
       let rank : rank_of Grt ≡ (parts_of n).rank = exact_unsigned 5 (parts_of n).rank parts.0 in
       let first : user ≡ (parts_of n).first = exact_bytes user (parts_of n).first parts.1 in
-      both (is_line_of Grt n) (bytes_eq user (parts_of n).first)
+      and_from (is_line_of Grt n) (bytes_eq user (parts_of n).first)
       (rank_kind Grt n (all_has (λ l. says l ≡ true) live n is.states n_in) (sym rank))
       (ap (bytes_eq user) (sym first) ∙ text_itself user)
 

@@ -6,7 +6,7 @@ use Rattle.std.specs.Borrow.{Bor}
 use Rattle.std.specs.List.{list_any, AllByRecursion}
 use Rattle.std.specs.Ordering.{is_eq, is_lt, is_le, ordering_reverse}
 use Rattle.std.specs.declared.cmp.Ordering.TheVariants.{Less, Equal, Greater}
-use Rattle.std.proofs.lemmas.Bool.{or_cases, both_ways, and_parts}
+use Rattle.std.proofs.lemmas.Bool.{and_from, and_parts, both_ways, not-true, not_from_false, or_cases, or_left, or_right}
 use Rattle.epochs.specs.declared.line.Line.{Line}
 use Rattle.epochs.specs.Lines.{Entry, end_of}
 use Rattle.epochs.specs.Views.{seen}
@@ -18,7 +18,7 @@ use Rattle.epoch_rules.specs.Rules.{is_epoch, epoch_start, is_before_end, ends_b
 use Rattle.epoch_rules.proofs.Ends.{earlier_before, ends_at, ends_before}
 use Rattle.epoch_rules.proofs.KeptCatalog.{epoch_by_rank, same_rank}
 use Rattle.epoch_rules.proofs.Lookups.{is_equal}
-use Rattle.epoch_rules.proofs.Members.{Has, all_has, and_no, any_has, both, false_not, has_any, left_true, none_has, not_false, right_true, same_bool}
+use Rattle.epoch_rules.proofs.Members.{Has, all_has, and_no, any_has, has_any, none_has, same_bool}
 use Rattle.epoch_rules.proofs.Nearest.{between, between_start, first_there, from_first, last_there, none_there, up_to_last}
 use Rattle.epoch_rules.proofs.Orders.{entries_total, family_total, parts_total}
 use Rattle.epoch_rules.proofs.Tidy.{Tidy}
@@ -54,17 +54,13 @@ module _ (live : List Entry) (is : IsCatalog live) (neat : AllByRecursion Tidy l
   lie_apart a b a_in b_in epoch same apart =
       let none = and_no (is_epoch a) (list_any (is_rival a) live) (none_has (has_rival live) live a is.apart a_in) epoch in
       and_no (have_one_family a b && not (have_one_key a b)) (overlap a b) (none_has (is_rival a) live b none b_in)
-      (both (have_one_family a b) (not (have_one_key a b)) same (not_false (have_one_key a b) apart))
+      (and_from (have_one_family a b) (not (have_one_key a b)) same (not_from_false (have_one_key a b) apart))
 
   pub states : (x : Entry) → Has live x → says x ≡ true
   states x has = all_has (λ l. says l ≡ true) live x is.states has
 
   pub neat_at : (x : Entry) → Has live x → Tidy x
   neat_at x has = all_has Tidy live x neat has
-
-  and_first : (a b : Bool) → (a && b) ≡ false → b ≡ true → a ≡ false
-  and_first true b h k = sym k ∙ h
-  and_first false b h k = refl
 
   -- of two live epochs of a family the earlier ends by the start of the later
   pub ends_first : (a b : Entry) → Has live a → Has live b → is_epoch a ≡ true → family_cmp (parts_of a) (parts_of b) ≡ Equal → entry_cmp a b ≡ Less → int_le (parts_of a).start (parts_of b).start ≡ true
@@ -87,7 +83,7 @@ module _ (live : List Entry) (is : IsCatalog live) (neat : AllByRecursion Tidy l
   rival_parts x h =
       let p = and_parts (have_one_family e x && not (have_one_key e x)) (overlap e x) h in
       let q = and_parts (have_one_family e x) (not (have_one_key e x)) p.0 in
-      (q.0, false_not (have_one_key e x) q.1, p.1)
+      (q.0, not-true (have_one_key e x) q.1, p.1)
 
   overlap_parts : (x : Entry) → overlap e x ≡ true → (is_before_end (epoch_start e) (end_of x.values) ≡ true) × (is_before_end (epoch_start x) (end_of e.values) ≡ true)
   overlap_parts x h = and_parts (is_before_end (epoch_start e) (end_of x.values)) (is_before_end (epoch_start x) (end_of e.values)) h
@@ -125,9 +121,9 @@ module _ (live : List Entry) (is : IsCatalog live) (neat : AllByRecursion Tidy l
       let n_family : family_cmp (parts_of n) (parts_of x) ≡ Equal = sym (family_total.congr (parts_of e) (parts_of n) (parts_of x) here.0) ∙ is_equal (family_cmp (parts_of e) (parts_of x)) r.0 in
       let first : int_le (epoch_start e) (epoch_start n) ≡ true = (λ i. int_le (e_start i) (n_start i)) ∙ here.1 in
       let second : int_le (epoch_start n) (epoch_start x) ≡ true = (λ i. int_le (n_start i) (x_start i)) ∙ between_start (parts_of n) (parts_of x) n_family less in
-      both (have_one_family e n && not (have_one_key e n)) (overlap e n)
-      (both (have_one_family e n) (not (have_one_key e n)) family (ap (λ o. not (is_eq o)) above))
-      (both (is_before_end (epoch_start e) (end_of n.values)) (is_before_end (epoch_start n) (end_of e.values))
+      and_from (have_one_family e n && not (have_one_key e n)) (overlap e n)
+      (and_from (have_one_family e n) (not (have_one_key e n)) family (ap (λ o. not (is_eq o)) above))
+      (and_from (is_before_end (epoch_start e) (end_of n.values)) (is_before_end (epoch_start n) (end_of e.values))
       (earlier_before (epoch_start e) (epoch_start n) (end_of n.values) first ((neat_at live is neat n n_in).forward n_epoch))
       (earlier_before (epoch_start n) (epoch_start x) (end_of e.values) second (overlap_parts x r.2).1))
 
@@ -172,7 +168,7 @@ module _ (live : List Entry) (is : IsCatalog live) (neat : AllByRecursion Tidy l
       let x = has_any (is_rival e) live h in
       let apart = (rival_parts x.0 x.2).1 in
       elim (entry_cmp x.0 e) as (λ o. entry_cmp x.0 e ≡ o → (passes_there (is_rival e) before || passes_there (is_rival e) after) ≡ true) [
-        | Less ↦ λ less. left_true (passes_there (is_rival e) before) (passes_there (is_rival e) after) (rival_before x.0 before x.1 x.2 less last)
+        | Less ↦ λ less. or_left (passes_there (is_rival e) before) (passes_there (is_rival e) after) (rival_before x.0 before x.1 x.2 less last)
         | Equal ↦ λ same. absurd (both_ways (have_one_key e x.0) apart (ap is_eq (entries_total.antisymm e x.0 ∙ ap ordering_reverse same)))
-        | Greater ↦ λ more. right_true (passes_there (is_rival e) before) (passes_there (is_rival e) after) (rival_after x.0 after x.1 x.2 (entries_total.antisymm e x.0 ∙ ap ordering_reverse more) first)
+        | Greater ↦ λ more. or_right (passes_there (is_rival e) before) (passes_there (is_rival e) after) (rival_after x.0 after x.1 x.2 (entries_total.antisymm e x.0 ∙ ap ordering_reverse more) first)
       ] refl)

@@ -4,22 +4,17 @@ use Rattle.std.specs.Prelude.{int_le}
 use Rattle.std.specs.List.Sorted.{IsStrictlySortedBy}
 use Rattle.std.specs.Ordering.{is_lt, nat_cmp, int_cmp, ordering_then, ordering_reverse}
 use Rattle.std.specs.declared.cmp.Ordering.TheVariants.{Less, Equal, Greater}
-use Rattle.std.proofs.lemmas.Bool.{cases_Bool, both_ways}
+use Rattle.std.proofs.lemmas.Bool.{both_ways, cases_Bool, not-true}
 use Rattle.std.proofs.lemmas.Int.{ints}
 use Rattle.std.proofs.lemmas.Cmp.{int_ranked}
 use Rattle.std.specs.Cmp.{int_cmp_is}
 use Rattle.std.proofs.lemmas.List.Kept.{IsStrictlySortedBy-filter}
 use Rattle.epochs.specs.Lines.{Entry}
 use Rattle.epoch_rules.specs.KeyOrder.{KeyParts, text_cmp, family_cmp, parts_cmp, entry_cmp}
-use Rattle.epoch_rules.proofs.Members.{Has, all_has, false_not}
-use Rattle.epoch_rules.proofs.Orders.{family_total}
+use Rattle.epoch_rules.proofs.Members.{Has, all_has}
+use Rattle.epoch_rules.proofs.Orders.{family_total, then_assoc}
 use Rattle.epoch_rules.proofs.LastLine.{below_middle}
 use Rattle.epoch_rules.proofs.Replaced.{sorted_head}
-
-then_assoc : (a b c : Ordering) → ordering_then (ordering_then a b) c ≡ ordering_then a (ordering_then b c)
-then_assoc Less b c = refl
-then_assoc Equal b c = refl
-then_assoc Greater b c = refl
 
 -- keys compare by their families, then by their starts
 pub by_family : (p q : KeyParts) → ordering_then (family_cmp p q) (int_cmp p.start q.start) ≡ parts_cmp p q
@@ -158,7 +153,7 @@ less_or_level a b same rises =
         ]
 
 pub not_after : (key q : KeyParts) → not (is_lt (parts_cmp key q)) ≡ true → parts_cmp key q ≡ Less → ⊥
-not_after key q h less = both_ways (is_lt (parts_cmp key q)) (false_not (is_lt (parts_cmp key q)) h) (ap is_lt less)
+not_after key q h less = both_ways (is_lt (parts_cmp key q)) (not-true (is_lt (parts_cmp key q)) h) (ap is_lt less)
 
 pub level_start : (p q : KeyParts) → family_cmp p q ≡ Equal → (parts_cmp q p ≡ Less → ⊥) → int_le p.start q.start ≡ true
 level_start p q same level =

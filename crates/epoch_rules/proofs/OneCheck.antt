@@ -14,6 +14,8 @@ use Rattle.epoch_rules.specs.LiveLines.{says, live_lines}
 use Rattle.epoch_rules.specs.Rules.{broken_rule, with_line}
 use Rattle.epoch_rules.specs.Kept.{AreKept, IsFirstBroken, IsCheckFault}
 use Rattle.epoch_rules.proofs.LiveByKey.{live_again, live_lines_go_on, live_says, live_sorted}
+use Rattle.epoch_rules.proofs.LastLine.{append_one}
+use Rattle.std.proofs.lemmas.List.{append-nil}
 
 abbrev pub Verdict : Type 0
 Verdict = Option (ℕ × Rule)
@@ -31,17 +33,9 @@ abbrev after_all : List Entry → List Entry → List Entry
 after_all live [] = live
 after_all live (e ∷ lines) = after_all (with_line live e) lines
 
-append_one : (xs : List Entry) (y : Entry) (ys : List Entry) → (xs ++ y ∷ []) ++ ys ≡ xs ++ y ∷ ys
-append_one [] y ys = refl
-append_one (x ∷ xs) y ys = ap (λ l. x ∷ l) (append_one xs y ys)
-
-append_nil : (xs : List Entry) → xs ++ [] ≡ xs
-append_nil [] = refl
-append_nil (x ∷ xs) = ap (λ l. x ∷ l) (append_nil xs)
-
 -- lines taken one by one are lines taken together
 together : (live lines : List Entry) → IsStrictlySortedBy entry_cmp live → AllByRecursion (λ e. says e ≡ true) live → after_all live lines ≡ live_lines (live ++ lines)
-together live [] up all = sym (ap live_lines (append_nil live) ∙ live_again live up all)
+together live [] up all = sym (ap live_lines (append-nil live) ∙ live_again live up all)
 together live (e ∷ lines) up all =
     together (with_line live e) lines (live_sorted (live ++ e ∷ [])) (live_says (live ++ e ∷ []))
     ∙ live_lines_go_on (live ++ e ∷ []) lines

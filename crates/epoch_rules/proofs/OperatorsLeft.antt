@@ -10,17 +10,14 @@ use Rattle.epoch_rules.specs.Rules.{is_line_of, is_operator, is_operator_among, 
 use Rattle.epoch_rules.proofs.Counts.{any_counted}
 use Rattle.epoch_rules.proofs.FamilyKeys.{kind_says}
 use Rattle.epoch_rules.proofs.WithLine.{any_with_line, any_other, others}
+use Rattle.std.proofs.lemmas.Bool.{and_right}
 
 operator_says : (e : Entry) → (says e && is_operator e) ≡ is_operator e
 operator_says e =
     elim (is_line_of Usr e) as (λ b. is_line_of Usr e ≡ b → (says e && (b && is_operator_among e.values)) ≡ (b && is_operator_among e.values)) [
       | true ↦ λ h. ap (λ s. s && is_operator_among e.values) (kind_says Usr e h)
-      | false ↦ λ _. and_false (says e)
+      | false ↦ λ _. and_right (says e) false refl
     ] refl
-  where
-    and_false : (b : Bool) → (b && false) ≡ false
-    and_false true = refl
-    and_false false = refl
 
 no_more : (n : ℕ) → not (nat_lt 0 n) ≡ (nat_eq n 0 && true)
 no_more n = elim (nat_eq n 0) as (λ b. nat_eq n 0 ≡ b → not (nat_lt 0 n) ≡ (b && true)) [
@@ -29,11 +26,7 @@ no_more n = elim (nat_eq n 0) as (λ b. nat_eq n 0 ≡ b → not (nat_lt 0 n) �
 ] refl
 
 counts : (b : Bool) (n c : ℕ) → c ≡ (if b then 1 else 0) → not (b || nat_lt 0 n) ≡ (nat_eq n 0 && nat_eq c 0)
-counts true n c h = sym (ap (λ m. nat_eq n 0 && nat_eq m 0) h ∙ and_no (nat_eq n 0))
-  where
-    and_no : (b : Bool) → (b && false) ≡ false
-    and_no true = refl
-    and_no false = refl
+counts true n c h = sym (ap (λ m. nat_eq n 0 && nat_eq m 0) h ∙ and_right (nat_eq n 0) false refl)
 counts false n c h = no_more n ∙ sym (ap (λ m. nat_eq n 0 && nat_eq m 0) h)
 
 pub none_left : (live : List Entry) (e : Entry) → IsCatalog live → (n c : ℕ) → n ≡ length (filter is_operator (others e live)) → c ≡ (if is_operator e then 1 else 0)

@@ -1,9 +1,17 @@
 -- Keys are in a total order.
+use Rattle.std.proofs.Common.{◌≡◌, refl}
 use Rattle.std.specs.declared.cmp.Ordering.{Ordering}
+use Rattle.std.specs.declared.cmp.Ordering.TheVariants.{Less, Equal, Greater}
+use Rattle.std.specs.Ordering.{ordering_then}
 use Rattle.std.specs.Cmp.{IsTotalOrder}
 use Rattle.std.specs.Cmp.Lexicographic.{nat_list_cmp_total}
 use Rattle.std.proofs.lemmas.Cmp.{then_total, int_cmp_total, nat_cmp_total}
 use Rattle.epoch_rules.specs.KeyOrder.{parts_of, family_cmp, parts_cmp, entry_cmp}
+
+pub then_assoc : (a b c : Ordering) → ordering_then (ordering_then a b) c ≡ ordering_then a (ordering_then b c)
+then_assoc Less b c = refl
+then_assoc Equal b c = refl
+then_assoc Greater b c = refl
 
 -- an order of what a function gives orders its arguments
 pub total_on : {A B : Type 0} {R : B → B → Ordering} (f : A → B) → IsTotalOrder R → IsTotalOrder (λ x y. R (f x) (f y))

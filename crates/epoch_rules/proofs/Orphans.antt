@@ -2,7 +2,7 @@
 use Rattle.std.proofs.Common.{◌≡◌, ◌∙◌, Bool, true, false, not, ◌||◌, ◌&&◌, List, [], ◌∷◌, refl, sym, ap, arith}
 use Rattle.std.specs.List.{list_any, AllByRecursion}
 use Rattle.std.specs.Str.{bytes_eq}
-use Rattle.std.proofs.lemmas.Bool.{and_parts}
+use Rattle.std.proofs.lemmas.Bool.{and_parts, or_left, or_parts, or_right}
 use Rattle.epochs.specs.declared.kinds.Kind.TheVariants.{Net, Sta, Cha}
 use Rattle.epochs.specs.Lines.{Entry}
 use Rattle.epoch_rules.specs.Catalog.{IsCatalog}
@@ -12,7 +12,6 @@ use Rattle.epoch_rules.specs.Rules.{is_line_of, is_epoch, contains, have_one_fam
 use Rattle.epoch_rules.proofs.FamilyKeys.{kind_rank, one_family}
 use Rattle.epoch_rules.proofs.Grants.{same_text, loses_users}
 use Rattle.epoch_rules.proofs.Holders.{holds, lacks, loses_containers}
-use Rattle.epoch_rules.proofs.Members.{either_false, left_true, right_true}
 use Rattle.epoch_rules.proofs.Tidy.{Tidy}
 
 and_assoc : (a b c : Bool) → (a && b && c) ≡ (a && (b && c))
@@ -41,18 +40,18 @@ orphans_parted live xs =
     ∙ ap (λ b. b || list_any (lacks_user live) xs) (any_or (lacks_station live) (lacks_network live) xs)
 
 pub net_epoch : (x : Entry) → is_line_of Net x ≡ true → is_epoch x ≡ true
-net_epoch x h = left_true (is_line_of Net x || is_line_of Sta x) (is_line_of Cha x) (left_true (is_line_of Net x) (is_line_of Sta x) h)
+net_epoch x h = or_left (is_line_of Net x || is_line_of Sta x) (is_line_of Cha x) (or_left (is_line_of Net x) (is_line_of Sta x) h)
 
 pub sta_epoch : (x : Entry) → is_line_of Sta x ≡ true → is_epoch x ≡ true
-sta_epoch x h = left_true (is_line_of Net x || is_line_of Sta x) (is_line_of Cha x) (right_true (is_line_of Net x) (is_line_of Sta x) h)
+sta_epoch x h = or_left (is_line_of Net x || is_line_of Sta x) (is_line_of Cha x) (or_right (is_line_of Net x) (is_line_of Sta x) h)
 
 pub cha_epoch : (x : Entry) → is_line_of Cha x ≡ true → is_epoch x ≡ true
-cha_epoch x h = right_true (is_line_of Net x || is_line_of Sta x) (is_line_of Cha x) h
+cha_epoch x h = or_right (is_line_of Net x || is_line_of Sta x) (is_line_of Cha x) h
 
 zero_one : rank_of Net ≡ rank_of Sta → ⊥
 zero_one h = omega (arith, h)
 
-one_two : rank_of Sta ≡ rank_of Cha → ⊥
+pub one_two : rank_of Sta ≡ rank_of Cha → ⊥
 one_two h = omega (arith, h)
 
 network_family : (a b x : Entry) → Tidy a → Tidy b → is_line_of Net a ≡ true → is_line_of Net b ≡ true → of_network (parts_of a) (parts_of x) ≡ true → of_network (parts_of b) (parts_of x) ≡ true → have_one_family a b ≡ true
@@ -79,8 +78,8 @@ pub orphans_made : (live : List Entry) (e : Entry) → IsCatalog live → AllByR
     → list_any (is_orphan (with_line live e)) (with_line live e) ≡ makes_orphans live e
 orphans_made live e is neat tidy_e station network user =
     let after = with_line live e in
-    let rests = either_false (list_any (lacks_station live) live || list_any (lacks_network live) live) (list_any (lacks_user live) live) (sym (orphans_parted live live) ∙ is.rests) in
-    let parts = either_false (list_any (lacks_station live) live) (list_any (lacks_network live) live) rests.0 in
+    let rests = or_parts (list_any (lacks_station live) live || list_any (lacks_network live) live) (list_any (lacks_user live) live) (sym (orphans_parted live live) ∙ is.rests) in
+    let parts = or_parts (list_any (lacks_station live) live) (list_any (lacks_network live) live) rests.0 in
     orphans_parted after after
     ∙ (λ i.
     ((ap (λ f. list_any (f after) after) lacks_station_is

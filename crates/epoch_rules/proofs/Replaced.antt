@@ -7,7 +7,7 @@ use Rattle.std.specs.declared.cmp.Ordering.TheVariants.{Less, Equal, Greater}
 use Rattle.std.specs.Cmp.{IsTotalOrder}
 use Rattle.std.specs.BTreeSet.{insert_key, replace_key}
 use Rattle.std.specs.Set.{remove_key}
-use Rattle.epoch_rules.proofs.Members.{either_false}
+use Rattle.std.proofs.lemmas.Bool.{or_parts}
 
 module _ {K : Type 0} (cmp : K → K → Ordering) where
   pub sorted_head : (x : K) (xs : List K) → IsStrictlySortedBy cmp (x ∷ xs) → AllByRecursion (λ y. cmp x y ≡ Less) xs
@@ -49,7 +49,7 @@ module _ {K : Type 0} {cmp : K → K → Ordering} (o : IsTotalOrder cmp) where
 pub replace_absent : {K : Type 0} (cmp : K → K → Ordering) (k : K) (ks : List K) → list_any (λ x. is_eq (cmp k x)) ks ≡ false → replace_key cmp ks k ≡ insert_key cmp ks k
 replace_absent cmp k [] none = refl
 replace_absent cmp k (x ∷ xs) none =
-    let n = either_false (is_eq (cmp k x)) (list_any (λ y. is_eq (cmp k y)) xs) none in
+    let n = or_parts (is_eq (cmp k x)) (list_any (λ y. is_eq (cmp k y)) xs) none in
     elim (cmp k x) as (λ r. is_eq r ≡ false → match_ordering r (k ∷ x ∷ xs) (k ∷ xs) (x ∷ replace_key cmp xs k) ≡ match_ordering r (k ∷ x ∷ xs) (x ∷ xs) (x ∷ insert_key cmp xs k)) [
       | Less ↦ λ _. refl
       | Equal ↦ λ h. (cc)

@@ -17,6 +17,8 @@ use Rattle.epoch_rules.specs.Rules.{with_line}
 use Rattle.epoch_rules.proofs.Lookups.{any_first, first_filter, first_inserted, first_of, is_equal, none_behind, or_none, same_lists, sorted_inserted, sorted_rest}
 use Rattle.epoch_rules.proofs.LiveByKey.{filter_all, live_after, live_sorted}
 use Rattle.epoch_rules.proofs.Orders.{entries_total}
+use Rattle.epoch_rules.proofs.Members.{or_swap}
+use Rattle.std.proofs.lemmas.Bool.{false_from_ne_true, or_parts}
 
 -- the lines of other keys
 abbrev pub others : Entry → List Entry → List Entry
@@ -42,10 +44,6 @@ all_kept p q (x ∷ xs) stays =
       | false ↦ λ _. all_kept p q xs stays
     ] refl
 
-pub false_from : (b : Bool) → (b ≡ true → ⊥) → b ≡ false
-false_from true f = absurd (f refl)
-false_from false f = refl
-
 -- of the lines of other keys, by key
 first_other : (q e : Entry) (live : List Entry) → IsStrictlySortedBy entry_cmp live → first_of entry_cmp q (others e live) ≡ cond (have_one_key q e) None (first_of entry_cmp q live)
 first_other q e live up =
@@ -58,7 +56,7 @@ first_other q e live up =
           ap not (ap is_eq (sym over) ∙ h))
       | false ↦ λ f.
           all_kept p q live (λ x h.
-          ap not (false_from (is_eq (entry_cmp e x)) (λ same.
+          ap not (false_from_ne_true (is_eq (entry_cmp e x)) (λ same.
           let back = alike_right entries_total e x q (is_equal (entry_cmp e x) same) in
           let both = sym f ∙ ap is_eq back ∙ h in
           let wrong : false ≡ true = both in
@@ -99,30 +97,21 @@ with_line_is live e up all =
     same_lists entries_total (with_line live e) (placed live e) (live_sorted (live ++ e ∷ [])) (placed_sorted e live up (says e))
     (λ q. by_key q e live up all (says e) refl)
 
-or_left : (a b c : Bool) → (a || (b || c)) ≡ (b || (a || c))
-or_left true true c = refl
-or_left true false c = refl
-or_left false b c = refl
-
-pub other_or : (a b : Bool) → (a || b) ≡ false → (a ≡ false) × (b ≡ false)
-other_or true b h = cc
-other_or false b h = (refl, h)
-
 -- a line put among lines of other keys
 pub any_put : (test : Entry → Bool) (e : Entry) (xs : List Entry) → list_any (have_one_key e) xs ≡ false → list_any test (insert_key entry_cmp xs e) ≡ (test e || list_any test xs)
 any_put test e [] none = refl
 any_put test e (x ∷ xs) none =
-    let p = other_or (have_one_key e x) (list_any (have_one_key e) xs) none in
+    let p = or_parts (have_one_key e x) (list_any (have_one_key e) xs) none in
     elim (entry_cmp e x) as (λ r. is_eq r ≡ false → list_any test (match_ordering r (e ∷ x ∷ xs) (x ∷ xs) (x ∷ insert_key entry_cmp xs e)) ≡ (test e || (test x || list_any test xs))) [
       | Less ↦ λ _. refl
       | Equal ↦ λ h. (cc)
-      | Greater ↦ λ _. ap (λ b. test x || b) (any_put test e xs p.1) ∙ or_left (test x) (test e) (list_any test xs)
+      | Greater ↦ λ _. ap (λ b. test x || b) (any_put test e xs p.1) ∙ or_swap (test x) (test e) (list_any test xs)
     ] p.0
 
 length_put : (e : Entry) (xs : List Entry) → list_any (have_one_key e) xs ≡ false → length (insert_key entry_cmp xs e) ≡ suc (length xs)
 length_put e [] none = refl
 length_put e (x ∷ xs) none =
-    let p = other_or (have_one_key e x) (list_any (have_one_key e) xs) none in
+    let p = or_parts (have_one_key e x) (list_any (have_one_key e) xs) none in
     elim (entry_cmp e x) as (λ r. is_eq r ≡ false → length (match_ordering r (e ∷ x ∷ xs) (x ∷ xs) (x ∷ insert_key entry_cmp xs e)) ≡ suc (suc (length xs))) [
       | Less ↦ λ _. refl
       | Equal ↦ λ h. (cc)
@@ -171,7 +160,7 @@ length_with_line live e up all =
 pub no_other_gone : (e : Entry) (xs : List Entry) → list_any (have_one_key e) xs ≡ false → others e xs ≡ xs
 no_other_gone e [] none = refl
 no_other_gone e (x ∷ xs) none =
-    let p = other_or (have_one_key e x) (list_any (have_one_key e) xs) none in
+    let p = or_parts (have_one_key e x) (list_any (have_one_key e) xs) none in
     ap (λ b. cond (not b) (x ∷ others e xs) (others e xs)) p.0 ∙ ap (λ ys. x ∷ ys) (no_other_gone e xs p.1)
 
 -- how many lines have other keys

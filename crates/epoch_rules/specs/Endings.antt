@@ -9,9 +9,10 @@ use Rattle.std.specs.BTreeSet.{BTreeSet}
 use Rattle.epochs.specs.declared.kinds.Kind.TheVariants.{Sta, Cha}
 use Rattle.epochs.specs.Kinds.{Text}
 use Rattle.epochs.specs.Lines.{Entry, end_of}
+use Rattle.epoch_rules.specs.declared.endings.ChildKey.{ChildKey}
 use Rattle.epoch_rules.specs.declared.endings.Ending.{Ending}
 use Rattle.epoch_rules.specs.KeyOrder.{KeyParts, parts_of, text_cmp, parts_cmp, or_zero}
-use Rattle.epoch_rules.specs.KeyViews.{view_seen, view_of}
+use Rattle.epoch_rules.specs.KeyViews.{view_of}
 use Rattle.epoch_rules.specs.Rules.{is_line_of}
 
 -- the end of an epoch in a container: the epoch's kind, the container's codes, the end, and the epoch's key
@@ -33,14 +34,18 @@ ending rank first second stop key = record {
   key = key;
 }
 
+-- as the program keeps them, without the line
+abbrev pub child_seen : ChildKey → KeyParts
+child_seen k = view_of k.rank k.network k.station k.location k.channel [] k.start
+
 abbrev pub ending_seen : Ending → EndingParts
 ending_seen e = record {
   rank = e.rank;
-  first = e.first.now;
-  second = e.second.now;
+  first = e.first;
+  second = e.second;
   forever = e.forever;
   micros = e.micros;
-  key = view_seen e.key;
+  key = child_seen e.key;
 }
 
 -- a line that lies in a container

@@ -1,5 +1,8 @@
 pub mod Catalog
+pub mod Codes
+pub mod Containers
 pub mod Endings
+pub mod Indexes
 pub mod Kept
 pub mod KeyOrder
 pub mod KeyViews

@@ -3,27 +3,36 @@ ghost use Rattle.std.specs.Prelude.{◌≡◌, ◌⊎◌, IfOk, IfErr, IsErrOf, 
 ghost use Rattle.list_laws.specs.Only.{IsOnly};
 ghost use Rattle.epochs.specs.Views.{seen};
 ghost use Rattle.epoch_rules.specs.Catalog.{IsCatalog};
+ghost use Rattle.epoch_rules.specs.Indexes.{IsIndex};
 ghost use Rattle.epoch_rules.specs.Kept.{AreKept, IsCheckFault, RefusesLines};
 
+use crate::index::Index;
 use crate::outline::Outline;
 use crate::rule::CheckFault;
 use epochs::Line;
 use std::alloc::Global;
 
 /// Whether lines keep the rules over live lines, each with those before it taken. The first line that
-/// breaks a rule decides, by the first rule that it breaks; its number counts from 1.
-pub fn check_lines(alloc: Global, live: &[Line], lines: &[Line]) -> Result<(), CheckFault>
-    requires { IsCatalog (map seen live.now) }
+/// breaks a rule decides, by the first rule that it breaks; its number counts from 1. `index` is that of the
+/// live lines, so that these are walked once, whatever the number of lines.
+pub fn check_lines(
+    alloc: Global,
+    live: &[Line],
+    index: &Index,
+    lines: &[Line],
+) -> Result<(), CheckFault>
+    requires catalog { IsCatalog (map seen live.now) }
+    requires index { IsIndex index.now (map seen live.now) }
     ensures kept { IfOk result (λ _. AreKept (map seen live.now) (map seen lines.now)) }
     ensures refused { IfErr result (RefusesLines (map seen live.now) (map seen lines.now)) }
     ensures exact { IsErrOf result CheckFault.OutOfMemory
         ⊎ IsOnly (λ _. AreKept (map seen live.now) (map seen lines.now)) (IsCheckFault (map seen live.now) (map seen lines.now)) result }
 {
-    let mut outline = Outline::of(alloc, live)?;
-    'lines: for (index, line) in lines.iter().enumerate() {
+    let mut outline = Outline::of(alloc, live, index)?;
+    'lines: for (place, line) in lines.iter().enumerate() {
         if let Some(rule) = outline.broken_rule(line) {
             return Err(CheckFault::Broken {
-                line: index as u64 + 1,
+                line: place as u64 + 1,
                 rule,
             });
         }

@@ -7,13 +7,15 @@ ghost use Rattle.epoch_rules.specs.Catalog.{IsCatalog};
 ghost use Rattle.epoch_rules.specs.Endings.{is_child};
 ghost use Rattle.epoch_rules.specs.KeyOrder.{have_one_key};
 ghost use Rattle.epoch_rules.specs.KeyViews.{view_seen};
-ghost use Rattle.epoch_rules.specs.Losses.{network_key, station_key, user_key, grants_key, is_grant_of, new_end, is_cut_in, makes_orphans};
+ghost use Rattle.epoch_rules.specs.Losses.{network_key, station_key, user_key, grants_key, is_grant_of, new_end, is_cut_in, loses_grants, makes_orphans};
 ghost use Rattle.epoch_rules.specs.Neighbours.{passes_there};
 ghost use Rattle.epoch_rules.specs.Outlines.{outlined, IsOutline};
 ghost use Rattle.epoch_rules.specs.Rules.{has_rival, lacks_station, lacks_network, lacks_user, is_operator, is_rival, holds_channel, holds_station, deletes_nothing, most_lines, broken_rule, own_rule, common_rule, with_line};
 
+use crate::container::container_of;
 use crate::endings::{cut, has_between};
-use crate::key_order::{KeyView, key_view};
+use crate::key_code::KeyCode;
+use crate::key_order::{GRANT, KeyView, NETWORK, STATION, USER, key_view};
 use crate::neighbours::{first_after, first_from, last_before, last_up_to, line_at};
 use crate::outline::Outline;
 use crate::relations::{
@@ -23,17 +25,6 @@ use crate::relations::{
 use crate::rule::Rule;
 use crate::spans::{end, start};
 use epochs::Line;
-
-// The ranks of kinds (`specs/KeyOrder.antt`).
-const NETWORK: u8 = 0;
-
-const STATION: u8 = 1;
-
-const CHANNEL: u8 = 2;
-
-const GRANT: u8 = 5;
-
-const USER: u8 = 6;
 
 // How many lines may be live.
 const MOST_LINES: usize = 100_000;
@@ -268,7 +259,7 @@ impl<'a> Outline<'a> {
         requires catalog { IsCatalog (outlined self.now) }
         ensures { result ≡ not (list_any is_operator (with_line (outlined self.now) (seen line.now))) }
     {
-        let others = self.operators - self.operators_replaced(line);
+        let others = self.index.operators - self.operators_replaced(line);
         others == 0 && count_operator(line) == 0
     }
 
@@ -284,17 +275,17 @@ impl<'a> Outline<'a> {
 
     // Whether the line cuts an epoch of that kind in a container of these codes: it ends behind the line's
     // new end, and no later than the old one.
-    fn cuts(&self, line: &'a Line, kind: u8, first: &'a [u8], second: &'a [u8]) -> bool
+    fn cuts(&self, line: &'a Line, kind: u8, first: KeyCode, second: KeyCode) -> bool
         requires outline { IsOutline self.now }
         requires catalog { IsCatalog (outlined self.now) }
-        ensures { result ≡ list_any (λ x. is_child x && is_cut_in kind first.now second.now (outlined self.now) (seen line.now) x) (outlined self.now) }
+        ensures { result ≡ list_any (λ x. is_child x && is_cut_in kind first second (outlined self.now) (seen line.now) x) (outlined self.now) }
     {
         let Some(old) = line_at(&self.lines, key_view(line)) else {
             return false;
         };
         let low = cut(kind, first, second, new_end(line));
         let high = cut(kind, first, second, end(old));
-        has_between(&self.ends, low, high)
+        has_between(&self.index.ends, low, high)
     }
 
     // Whether a user has a live grant.
@@ -306,18 +297,27 @@ impl<'a> Outline<'a> {
         is_grant_there(user, first_from(&self.lines, grants_key(user)))
     }
 
+    // Whether the line deletes a user who has a live grant.
+    fn loses_grants(&self, line: &'a Line) -> bool
+        requires outline { IsOutline self.now }
+        requires catalog { IsCatalog (outlined self.now) }
+        ensures { result ≡ loses_grants (outlined self.now) (seen line.now) }
+    {
+        let key = key_view(line);
+        key.rank == USER && !says(line) && self.has_grant(key.first)
+    }
+
     // Whether with the line some live line lacks its container or its user.
     fn makes_orphans(&self, line: &'a Line) -> bool
         requires outline { IsOutline self.now }
         requires catalog { IsCatalog (outlined self.now) }
         ensures { result ≡ makes_orphans (outlined self.now) (seen line.now) }
     {
-        let key = key_view(line);
-        match key.rank {
-            NETWORK => self.cuts(line, STATION, key.first, &[]),
-            STATION => self.cuts(line, CHANNEL, key.first, key.second),
-            USER => !says(line) && self.has_grant(key.first),
-            _ => false,
+        match container_of(line) {
+            Some(container) => {
+                self.cuts(line, container.kind, container.first, container.second)
+            }
+            None => self.loses_grants(line),
         }
     }
 

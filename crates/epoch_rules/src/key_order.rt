@@ -9,6 +9,17 @@ use epochs::{Glob, Key, Line};
 use exact_time::Moment;
 use std::cmp::Ordering;
 
+// The ranks of kinds (`specs/KeyOrder.antt`).
+pub const NETWORK: u8 = 0;
+
+pub const STATION: u8 = 1;
+
+pub const CHANNEL: u8 = 2;
+
+pub const GRANT: u8 = 5;
+
+pub const USER: u8 = 6;
+
 /// The parts of a key that are compared, in the order of `specs/KeyOrder.antt`.
 #[derive(Clone, Copy, Debug, PartialEq, Eq, PartialOrd, Ord)]
 pub struct KeyView<'a> {

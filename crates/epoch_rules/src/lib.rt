@@ -4,7 +4,9 @@
 //! live lines with those before it (`AreKept` of `specs/Kept.antt`), and else the first line that breaks a
 //! rule, and the first rule that it breaks (`IsFirstBroken`). It asks that the live lines are a catalog
 //! (`IsCatalog` of `specs/Catalog.antt`): keys rise, no line is a deletion, no epoch overlaps another of its
-//! codes, and each line has what it rests on.
+//! codes, and each line has what it rests on. It is passed their [`Index`] (`IsIndex` of `specs/Indexes.antt`),
+//! which the crate above keeps beside them: how many operators there are, and the ends of stations and channels
+//! in order. [`Index::after`] is that of the live lines after some lines more.
 //!
 //! Which lines are live is defined in `specs/LiveLines.antt`, and the order of keys in
 //! `specs/KeyOrder.antt` ([`cmp_keys`], [`key_view`]). The rules stand in `specs/Rules.antt`, in the order in
@@ -12,15 +14,18 @@
 //! `epochs`).
 //!
 //! `src/check.rt` holds each line against an outline of the live lines (`src/outline.rt`): the lines by their
-//! keys, the ends of stations and channels in order, and how many operators there are. Since the live lines are
-//! a catalog, the lines next to a key decide (`src/judging.rt`, `src/neighbours.rt`, `src/endings.rt`), so that
-//! a line costs a logarithm.
+//! keys, which are in order and so go into a map in one walk, and a copy of their index. Since the live lines
+//! are a catalog, the lines next to a key decide (`src/judging.rt`, `src/neighbours.rt`, `src/endings.rt`), so
+//! that a line costs a logarithm.
 #![tactic(auto)]
 
 mod check;
 mod check_law;
+mod container;
 mod endings;
+mod index;
 mod judging;
+mod key_code;
 mod key_order;
 mod neighbours;
 mod outline;
@@ -30,6 +35,7 @@ mod spans;
 
 pub use check::check_lines;
 pub use check_law::lines_are_kept_or_one_is_the_first_broken;
+pub use index::Index;
 pub use key_order::{KeyView, cmp_keys, key_view};
 pub use relations::says;
 pub use rule::{CheckFault, Rule};

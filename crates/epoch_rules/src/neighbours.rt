@@ -1,16 +1,34 @@
 //! Lines by their keys, and which stand next to a key.
-ghost use Rattle.std.specs.Prelude.{filter};
+ghost use Rattle.std.specs.Prelude.{◌≡◌, filter, map, IfOk};
+ghost use Rattle.std.specs.List.Sorted.{IsStrictlySortedBy};
+ghost use Rattle.epochs.specs.Views.{seen};
+ghost use Rattle.epoch_rules.specs.KeyOrder.{entry_cmp};
 ghost use Rattle.epoch_rules.specs.KeyViews.{view_seen};
 ghost use Rattle.epoch_rules.specs.Neighbours.{is_at_key, is_below_key, is_up_to_key, is_above_key, is_from_key, IsLastOf, IsFirstOf};
 ghost use Rattle.epoch_rules.specs.MapLines.{lines_in, AreKeyed};
 
-use crate::key_order::KeyView;
+use crate::key_order::{KeyView, key_view};
 use epochs::Line;
+use exact_time::OutOfMemory;
+use std::alloc::Global;
 use std::collections::BTreeMap;
 use std::ops::Bound;
 
 /// Lines by their keys.
 pub type LinesByKey<'a> = BTreeMap<KeyView<'a>, &'a Line>;
+
+/// Lines that are in the order of their keys, by their keys.
+pub fn lines_by_key<'a>(alloc: Global, lines: &'a [Line]) -> Result<LinesByKey<'a>, OutOfMemory>
+    requires { IsStrictlySortedBy entry_cmp (map seen lines.now) }
+    ensures lines { IfOk result (λ by_key. lines_in by_key ≡ map seen lines.now) }
+    ensures keyed { IfOk result AreKeyed }
+{
+    let by_key = lines
+        .iter()
+        .map(|line| (key_view(line), line))
+        .collect(alloc)?;
+    Ok(by_key)
+}
 
 /// The line of a key.
 pub fn line_at<'a>(lines: &LinesByKey<'a>, key: KeyView<'a>) -> Option<&'a Line>

@@ -6,25 +6,24 @@ ghost use Rattle.std.specs.BTreeSet.{insert_key};
 ghost use Rattle.epochs.specs.Views.{seen};
 ghost use Rattle.epoch_rules.specs.Catalog.{IsCatalog};
 ghost use Rattle.epoch_rules.specs.KeyOrder.{entry_cmp, have_one_key};
+ghost use Rattle.epoch_rules.specs.Indexes.{IsIndex};
 ghost use Rattle.epoch_rules.specs.Outlines.{outlined, IsOutline};
 ghost use Rattle.epoch_rules.specs.Rules.{with_line};
 
-use crate::endings::{Ending, forget_end, keep_end};
+use crate::endings::{forget_end, keep_end};
+use crate::index::Index;
 use crate::key_order::key_view;
-use crate::neighbours::LinesByKey;
+use crate::neighbours::{LinesByKey, lines_by_key};
 use crate::relations::{count_operator, says};
 use epochs::Line;
 use exact_time::OutOfMemory;
 use std::alloc::Global;
-use std::collections::{BTreeMap, BTreeSet};
 
-/// The live lines by their keys, with those taken so far, how many of them are operators, and the ends of
-/// those that lie in containers. After an error it is of no use.
+/// The live lines by their keys, with those taken so far, and their index. After an error it is of no use.
 #[derive(Drop)]
 pub struct Outline<'a> {
     pub lines: LinesByKey<'a>,
-    pub operators: usize,
-    pub ends: BTreeSet<Ending<'a>>,
+    pub index: Index,
 }
 
 impl<'a> Outline<'a> {
@@ -38,8 +37,8 @@ impl<'a> Outline<'a> {
         self.lines.insert(key_view(line), line)?;
         // A map's length fits, and so does the number of operators in it.
         let _ = self.lines.len();
-        self.operators += count_operator(line);
-        keep_end(&mut self.ends, line)
+        self.index.operators += count_operator(line);
+        keep_end(&mut self.index.ends, line)
     }
 
     // Takes out the line of a key, if it is there.
@@ -50,8 +49,8 @@ impl<'a> Outline<'a> {
         ensures outline { IsOutline self.new }
     {
         if let Some(old) = self.lines.remove(&key_view(line)) {
-            self.operators -= count_operator(old);
-            forget_end(&mut self.ends, old);
+            self.index.operators -= count_operator(old);
+            forget_end(&mut self.index.ends, old);
         }
     }
 
@@ -69,20 +68,16 @@ impl<'a> Outline<'a> {
         Ok(())
     }
 
-    /// The live lines of a catalog.
-    pub fn of(alloc: Global, live: &'a [Line]) -> Result<Outline<'a>, OutOfMemory>
-        requires { IsCatalog (map seen live.now) }
+    /// The live lines of a catalog, with their index. They are in order, so that no look-up is needed.
+    pub fn of(alloc: Global, live: &'a [Line], index: &Index) -> Result<Outline<'a>, OutOfMemory>
+        requires catalog { IsCatalog (map seen live.now) }
+        requires index { IsIndex index.now (map seen live.now) }
         ensures lines { IfOk result (λ outline. outlined outline ≡ map seen live.now) }
         ensures outline { IfOk result IsOutline }
     {
-        let mut outline = Outline {
-            lines: BTreeMap::new(alloc),
-            operators: 0,
-            ends: BTreeSet::new(alloc),
-        };
-        'lines: for line in live {
-            outline.put(line)?;
-        }
-        Ok(outline)
+        Ok(Outline {
+            lines: lines_by_key(alloc, live)?,
+            index: index.clone()?,
+        })
     }
 }

@@ -9,7 +9,7 @@ use Rattle.epochs.specs.Views.{seen}
 use Rattle.epochs.specs.declared.line.Line.{Line}
 use Rattle.epoch_rules.specs.KeyOrder.{entry_cmp}
 use Rattle.epoch_rules.proofs.KeptCatalog.{eq_turned}
-use Rattle.epoch_catalog.proofs.Merged.{strictly}
+use Rattle.epoch_catalog.proofs.Heads.{strictly}
 use Rattle.epoch_rules.proofs.Orders.{entries_total}
 use Rattle.epoch_catalog.proofs.merging.sort_heads.Goals as goal
 

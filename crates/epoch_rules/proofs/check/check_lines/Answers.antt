@@ -16,28 +16,28 @@ pub returns-in-Some-clause-refused : goal.returns-in-Some-clause-refused
 returns-in-Some-clause-refused c =
     let live = map seen c.args.live.now in
     let lines = map seen c.args.lines.now in
-    broken_from_some live c.requires.rises c.requires.states lines (c.lines.index + 1) c.in-Some.rule
-    (breaks_here (c.lines.index + 1) (outlined c.lines.outline) c.args.lines.now c.lines.index c.index-lines-index.result c.in-Some.rule (first_broken 1 live lines) c.lines-test.true c.index-lines-index.is (sym c.broken_rule.ensures ∙ c.in-Some.is) c.lines.invariant.2)
+    broken_from_some live c.requires.catalog.rises c.requires.catalog.states lines (c.lines.place + 1) c.in-Some.rule
+    (breaks_here (c.lines.place + 1) (outlined c.lines.outline) c.args.lines.now c.lines.place c.index-lines-place.result c.in-Some.rule (first_broken 1 live lines) c.lines-test.true c.index-lines-place.is (sym c.broken_rule.ensures ∙ c.in-Some.is) c.lines.invariant.2)
 
 pub returns-in-Some-clause-exact : goal.returns-in-Some-clause-exact
 returns-in-Some-clause-exact c =
     let live = map seen c.args.live.now in
     let lines = map seen c.args.lines.now in
-    inr (only_check live c.requires.rises c.requires.states lines (Err (Broken (c.lines.index + 1) c.in-Some.rule))
-    (broken_from_some live c.requires.rises c.requires.states lines (c.lines.index + 1) c.in-Some.rule
-    (breaks_here (c.lines.index + 1) (outlined c.lines.outline) c.args.lines.now c.lines.index c.index-lines-index.result c.in-Some.rule (first_broken 1 live lines) c.lines-test.true c.index-lines-index.is (sym c.broken_rule.ensures ∙ c.in-Some.is) c.lines.invariant.2)))
+    inr (only_check live c.requires.catalog.rises c.requires.catalog.states lines (Err (Broken (c.lines.place + 1) c.in-Some.rule))
+    (broken_from_some live c.requires.catalog.rises c.requires.catalog.states lines (c.lines.place + 1) c.in-Some.rule
+    (breaks_here (c.lines.place + 1) (outlined c.lines.outline) c.args.lines.now c.lines.place c.index-lines-place.result c.in-Some.rule (first_broken 1 live lines) c.lines-test.true c.index-lines-place.is (sym c.broken_rule.ensures ∙ c.in-Some.is) c.lines.invariant.2)))
 
 pub lines-preserved : goal.lines-preserved
 lines-preserved c =
     let before = outlined c.lines.outline in
     let all = first_broken 1 (map seen c.args.live.now) (map seen c.args.lines.now) in
-    let line = c.index-lines-index.result in
+    let line = c.index-lines-place.result in
     let kept = sym c.broken_rule.ensures ∙ c.in_default.is in
     let after : outlined c.take.new.self ≡ with_line before (seen line) = c.in_ok-take.ensures.lines in (
       c.in_ok-take.ensures.outline,
       subst IsCatalog (sym after) (kept_line before (seen line) c.lines.invariant.1 kept),
-      ap (λ (l : List Entry). first_broken (c.lines.index + 1 + 1) l (map seen (drop (c.lines.index + 1) c.args.lines.now))) after
-          ∙ goes_on (c.lines.index + 1) before c.args.lines.now c.lines.index line all c.lines-test.true c.index-lines-index.is kept c.lines.invariant.2,
+      ap (λ (l : List Entry). first_broken (c.lines.place + 1 + 1) l (map seen (drop (c.lines.place + 1) c.args.lines.now))) after
+          ∙ goes_on (c.lines.place + 1) before c.args.lines.now c.lines.place line all c.lines-test.true c.index-lines-place.is kept c.lines.invariant.2,
     )
 
 pub returns-clause-kept : goal.returns-clause-kept
@@ -45,12 +45,12 @@ returns-clause-kept c =
     let live = map seen c.args.live.now in
     let lines = map seen c.args.lines.now in
     kept_from_none 1 live lines
-    (sym c.lines.invariant.2 ∙ ap (λ (l : List Line). first_broken (c.lines.index + 1) (outlined c.lines.outline) (map seen l)) (drop_all c.lines.index c.args.lines.now c.lines-test.false))
+    (sym c.lines.invariant.2 ∙ ap (λ (l : List Line). first_broken (c.lines.place + 1) (outlined c.lines.outline) (map seen l)) (drop_all c.lines.place c.args.lines.now c.lines-test.false))
 
 pub returns-clause-exact : goal.returns-clause-exact
 returns-clause-exact c =
     let live = map seen c.args.live.now in
     let lines = map seen c.args.lines.now in
-    inr (only_check live c.requires.rises c.requires.states lines (Ok tt)
+    inr (only_check live c.requires.catalog.rises c.requires.catalog.states lines (Ok tt)
     (kept_from_none 1 live lines
-    (sym c.lines.invariant.2 ∙ ap (λ (l : List Line). first_broken (c.lines.index + 1) (outlined c.lines.outline) (map seen l)) (drop_all c.lines.index c.args.lines.now c.lines-test.false))))
+    (sym c.lines.invariant.2 ∙ ap (λ (l : List Line). first_broken (c.lines.place + 1) (outlined c.lines.outline) (map seen l)) (drop_all c.lines.place c.args.lines.now c.lines-test.false))))

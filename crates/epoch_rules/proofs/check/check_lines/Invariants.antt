@@ -8,4 +8,4 @@ use Rattle.epoch_rules.proofs.check.check_lines.Given as goal
 abbrev pub invariant-lines : goal.invariant-lines
 invariant-lines l =
     IsOutline l.outline × IsCatalog (outlined l.outline)
-    × (first_broken (l.index + 1) (outlined l.outline) (map seen (drop l.index l.lines)) ≡ first_broken 1 (map seen l.live) (map seen l.lines))
+    × (first_broken (l.place + 1) (outlined l.outline) (map seen (drop l.place l.lines)) ≡ first_broken 1 (map seen l.live) (map seen l.lines))

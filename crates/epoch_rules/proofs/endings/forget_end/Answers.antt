@@ -5,7 +5,7 @@ use Rattle.epoch_rules.specs.Endings.{ending_seen, ending_cmp}
 use Rattle.epoch_rules.proofs.Ended.{ends_removed}
 use Rattle.epoch_rules.proofs.endings.forget_end.Goals as goal
 
-pub returns-then-is_child-clause-child : goal.returns-then-is_child-clause-child
-returns-then-is_child-clause-child c = λ child test.
-    ends_removed _ (λ a b. refl) c.args.ends.now.keys c.remove.new.self.keys c.ending_of.result c.remove.ensures.updates.0 test
-    ∙ ap (λ p. list_any (λ q. not (is_eq (ending_cmp p (ending_seen q))) && test (ending_seen q)) c.args.ends.now.keys) c.ending_of.ensures
+pub returns-in-Some-clause-child : goal.returns-in-Some-clause-child
+returns-in-Some-clause-child c = λ child test.
+    ends_removed _ (λ a b. refl) c.args.ends.now.keys c.remove.new.self.keys c.in-Some.ending c.remove.ensures.updates.0 test
+    ∙ ap (λ p. list_any (λ q. not (is_eq (ending_cmp p (ending_seen q))) && test (ending_seen q)) c.args.ends.now.keys) c.in-Some.ensures.1

@@ -7,5 +7,5 @@ use Rattle.epoch_rules.proofs.endings.keep_end.Goals as goal
 pub returns-in_ok-insert-clause-child : goal.returns-in_ok-insert-clause-child
 returns-in_ok-insert-clause-child c = λ child test.
     ap (list_any (λ q. test (ending_seen q))) c.in_ok-insert.ensures.keys
-    ∙ any_inserted _ (λ a b. refl) test c.args.ends.now.keys c.ending_of.result
-    ∙ ap (λ p. test p || list_any (λ q. test (ending_seen q)) c.args.ends.now.keys) c.ending_of.ensures
+    ∙ any_inserted _ (λ a b. refl) test c.args.ends.now.keys c.in-Some.ending
+    ∙ ap (λ p. test p || list_any (λ q. test (ending_seen q)) c.args.ends.now.keys) c.in-Some.ensures.1

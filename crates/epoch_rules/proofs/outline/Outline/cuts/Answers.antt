@@ -14,7 +14,7 @@ returns-in_default c =
     let e = seen c.args.line.now in
     let live = outlined c.args.self.now in
     let none = subst (λ k. IsFirstOf (filter (is_at_key k) live) None) c.key_view.ensures (subst (IsFirstOf (filter (is_at_key _) live)) c.in_default.is c.line_at.ensures) in
-    none_cut live c.requires.catalog e c.args.kind c.args.first.now c.args.second.now none
+    none_cut live c.requires.catalog e c.args.kind c.args.first c.args.second none
 
 pub returns : goal.returns
 returns c =
@@ -22,8 +22,8 @@ returns c =
     let live = outlined c.args.self.now in
     let first = subst (λ k. IsFirstOf (filter (is_at_key k) live) (Some c.in-Some.old)) c.key_view.ensures c.in-Some.ensures in
     let o = first_there live c.requires.catalog.rises (is_at_key (parts_of e)) first.0 (seen c.in-Some.old.now) first.1 in
-    let low = c.cut-low.ensures ∙ ap (cut c.args.kind c.args.first.now c.args.second.now) c.new_end.ensures in
-    let high = c.cut-high.ensures ∙ ap (cut c.args.kind c.args.first.now c.args.second.now) c.end.ensures in
+    let low = c.cut-low.ensures ∙ ap (cut c.args.kind c.args.first c.args.second) c.new_end.ensures in
+    let high = c.cut-high.ensures ∙ ap (cut c.args.kind c.args.first c.args.second) c.end.ensures in
     c.has_between.ensures
-    ∙ (λ i. list_any (λ q. is_between (low i) (high i) (ending_seen q)) c.args.self.now.ends.keys)
-    ∙ ends_cut live c.requires.catalog e c.args.kind c.args.first.now c.args.second.now c.args.self.now.ends (seen c.in-Some.old.now) c.requires.outline.ended o.0 o.1
+    ∙ (λ i. list_any (λ q. is_between (low i) (high i) (ending_seen q)) c.args.self.now.index.ends.keys)
+    ∙ ends_cut live c.requires.catalog e c.args.kind c.args.first c.args.second c.args.self.now.index.ends (seen c.in-Some.old.now) c.requires.outline.indexed.ended o.0 o.1

@@ -20,7 +20,7 @@ overflow_add-self c =
     ap (λ l. length (filter is_operator l)) lines ∙ count_put is_operator e (lines_in o.lines) c.requires.absent in
     let most = few_pass is_operator new in
     let long = as_long c.insert.new.self.entries in
-    omega (arith, count, most, long, c.len.ensures.len, c.len.ensures.small, c.count_operator.ensures, c.requires.outline.counted)
+    omega (arith, count, most, long, c.len.ensures.len, c.len.ensures.small, c.count_operator.ensures, c.requires.outline.indexed.counted)
 
 pub returns-clause-lines : goal.returns-clause-lines
 returns-clause-lines c =
@@ -39,6 +39,8 @@ returns-clause-outline c =
     (λ child other.
     record {
       keyed = keyed;
-      counted = omega (arith, count, c.count_operator.ensures, c.requires.outline.counted);
-      ended = subst (HoldsEnds c.keep_end.new.ends) (sym lines) (ended_put o.ends c.keep_end.new.ends (lines_in o.lines) e c.requires.outline.ended child other c.requires.absent);
+      indexed = record {
+        counted = omega (arith, count, c.count_operator.ensures, c.requires.outline.indexed.counted);
+        ended = subst (HoldsEnds c.keep_end.new.ends) (sym lines) (ended_put o.index.ends c.keep_end.new.ends (lines_in o.lines) e c.requires.outline.indexed.ended child other c.requires.absent);
+      };
     })

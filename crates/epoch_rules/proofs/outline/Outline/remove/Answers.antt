@@ -17,7 +17,7 @@ overflow_sub-self c =
     let e = seen c.args.line.now in
     let old = old_line _ (λ a b. refl) o.lines.entries c.requires.outline.keyed c.key_view.result e c.in-Some.old c.key_view.ensures c.requires.rises c.in-Some.ensures.value in
     let count = sym (ap (λ b. length (filter is_operator (others e (lines_in o.lines))) + (if b then 1 else 0)) (one_at_key is_operator (lines_in o.lines) c.requires.rises e (seen c.in-Some.old.now) old.0 old.1)) ∙ count_others is_operator e (lines_in o.lines) c.requires.rises in
-    omega (arith, count, c.count_operator.ensures, c.requires.outline.counted)
+    omega (arith, count, c.count_operator.ensures, c.requires.outline.indexed.counted)
 
 pub returns-in-Some-clause-lines : goal.returns-in-Some-clause-lines
 returns-in-Some-clause-lines c =
@@ -34,10 +34,12 @@ returns-in-Some-clause-outline c =
     let counted = ap (λ l. length (filter is_operator l)) lines in
     record {
       keyed = subst (λ l. AllByRecursion IsKeyed l) (sym c.remove.ensures.entries) (cut_keyed _ o.lines.entries c.requires.outline.keyed);
-      counted = omega (arith, count, counted, c.count_operator.ensures, c.requires.outline.counted);
-      ended =
-          subst (HoldsEnds c.forget_end.new.ends) (sym lines)
-          (ended_cut o.ends c.forget_end.new.ends (lines_in o.lines) c.requires.rises e (seen c.in-Some.old.now) old.0 old.1 c.requires.outline.ended c.forget_end.ensures.child c.forget_end.ensures.other);
+      indexed = record {
+        counted = omega (arith, count, counted, c.count_operator.ensures, c.requires.outline.indexed.counted);
+        ended =
+            subst (HoldsEnds c.forget_end.new.ends) (sym lines)
+            (ended_cut o.index.ends c.forget_end.new.ends (lines_in o.lines) c.requires.rises e (seen c.in-Some.old.now) old.0 old.1 c.requires.outline.indexed.ended c.forget_end.ensures.child c.forget_end.ensures.other);
+      };
     }
 
 pub returns-in_default-clause-lines : goal.returns-in_default-clause-lines

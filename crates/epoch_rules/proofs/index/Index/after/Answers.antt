@@ -1,0 +1,38 @@
+use Rattle.std.proofs.Common.{◌≡◌, ◌∙◌, ◌+◌, ◌++◌, List, map, drop, sym, ap, subst}
+use Rattle.std.proofs.lemmas.List.{drop_all}
+use Rattle.epochs.specs.Lines.{Entry}
+use Rattle.epochs.specs.Views.{seen}
+use Rattle.epochs.specs.declared.line.Line.{Line}
+use Rattle.epoch_rules.specs.Catalog.{IsCatalog}
+use Rattle.epoch_rules.specs.Indexes.{IsIndex}
+use Rattle.epoch_rules.specs.Kept.{AreKept}
+use Rattle.epoch_rules.specs.LiveLines.{live_lines}
+use Rattle.epoch_rules.specs.Outlines.{outlined}
+use Rattle.epoch_rules.specs.Rules.{with_line}
+use Rattle.epoch_rules.proofs.IndexSteps.{kept_here, taken_here, taken_all}
+use Rattle.epoch_rules.proofs.KeptCatalog.{kept_line}
+use Rattle.epoch_rules.proofs.index.Index.after.Goals as goal
+
+pub lines-preserved : goal.lines-preserved
+lines-preserved c =
+    let before = outlined c.lines.outline in
+    let lines = c.args.lines.now in
+    let line = c.line-item.result in
+    let all = live_lines (map seen c.args.live.now ++ map seen lines) in
+    let rest = map seen (drop (c.lines.line-index + 1) lines) in
+    let kept = kept_here before lines c.lines.line-index line c.lines-test.true c.line-item.is c.lines.invariant.2 in
+    let after : outlined c.take.new.self ≡ with_line before (seen line) = c.in_ok-take.ensures.lines in (
+      c.in_ok-take.ensures.outline,
+      subst IsCatalog (sym after) (kept_line before (seen line) c.lines.invariant.1 kept.0),
+      subst (λ (l : List Entry). AreKept l rest) (sym after) kept.1,
+      ap (λ (l : List Entry). live_lines (l ++ rest)) after
+          ∙ taken_here before lines c.lines.line-index line all c.lines-test.true c.line-item.is c.lines.invariant.3,
+    )
+
+pub returns : goal.returns
+returns c =
+    let before = outlined c.lines.outline in
+    let all = live_lines (map seen c.args.live.now ++ map seen c.args.lines.now) in
+    let none = ap (λ (l : List Line). live_lines (before ++ map seen l)) (drop_all c.lines.line-index c.args.lines.now c.lines-test.false) in
+    let same : before ≡ all = sym (taken_all before c.lines.invariant.1) ∙ sym none ∙ c.lines.invariant.3 in
+    subst (IsIndex c.lines.outline.index) same c.lines.invariant.0.indexed
