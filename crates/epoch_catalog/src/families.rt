@@ -6,7 +6,7 @@ ghost use Rattle.epoch_catalog.specs.Families.{is_in, family_place};
 ghost use Rattle.epoch_rules.specs.KeyOrder.{parts_of};
 
 use channel_globs::Code;
-use epoch_rules::key_view;
+use epoch_rules::{CHANNEL, NETWORK, STATION, key_view};
 use epochs::Line;
 use std::cmp::Ordering;
 
@@ -31,11 +31,15 @@ fn place_to(family: &Family, line: &Line) -> Ordering
 {
     let key = key_view(line);
     match family {
-        Family::Networks => key.rank.cmp(&0),
-        Family::Stations => key.rank.cmp(&1),
-        Family::Channels => key.rank.cmp(&2),
-        Family::StationsOf(network) => { key.rank.cmp(&1).then(key.first.cmp(&network.as_slice())) }
-        Family::ChannelsOf(network, station) => key.rank.cmp(&2).then(
+        Family::Networks => key.rank.cmp(&NETWORK),
+        Family::Stations => key.rank.cmp(&STATION),
+        Family::Channels => key.rank.cmp(&CHANNEL),
+        Family::StationsOf(network) => {
+            key.rank
+                .cmp(&STATION)
+                .then(key.first.cmp(&network.as_slice()))
+        }
+        Family::ChannelsOf(network, station) => key.rank.cmp(&CHANNEL).then(
             key.first
                 .cmp(&network.as_slice())
                 .then(key.second.cmp(&station.as_slice())),

@@ -8,7 +8,7 @@ ghost use Rattle.epoch_rules.specs.Catalog.{IsCatalog, is_user, user_place};
 ghost use Rattle.epoch_rules.specs.KeyOrder.{parts_of};
 ghost use Rattle.epoch_rules.specs.Rules.{is_line_of};
 
-use epoch_rules::key_view;
+use epoch_rules::{USER, key_view};
 use epochs::{Line, User};
 use std::cmp::Ordering;
 
@@ -17,7 +17,7 @@ fn place_to(name: &[u8], line: &Line) -> Ordering
     ensures { result ≡ user_place name.now (parts_of (seen line.now)) }
 {
     let key = key_view(line);
-    key.rank.cmp(&6).then(key.first.cmp(&name))
+    key.rank.cmp(&USER).then(key.first.cmp(&name))
 }
 
 // The user that a line states.

@@ -3,18 +3,13 @@ use Rattle.std.proofs.Common.{◌≡◌, ◌∙◌, Bool, true, false, not, cond
 use Rattle.std.specs.Option.{is_some}
 use Rattle.std.specs.List.{list_any}
 use Rattle.std.specs.Map.Iter.{TakesFirst}
-use Rattle.std.specs.Ordering.{is_lt, is_le, is_gt, ordering_reverse}
+use Rattle.std.specs.Ordering.{is_lt, is_le, ordering_reverse}
 use Rattle.std.specs.declared.cmp.Ordering.TheVariants.{Less, Equal, Greater}
 use Rattle.std.proofs.lemmas.Bool.{both_ways, and_parts}
 use Rattle.epoch_rules.specs.declared.endings.Ending.{Ending}
 use Rattle.epoch_rules.specs.Endings.{EndingParts, ending_cmp, ending_seen, is_between}
 use Rattle.epoch_rules.proofs.EndingOrder.{endings_total}
 use Rattle.epoch_rules.proofs.Members.{none_from}
-
-pub less_goes_on : (o : Ordering) → is_lt o ≡ true → is_gt o ≡ false
-less_goes_on Less h = refl
-less_goes_on Equal h = refl
-less_goes_on Greater h = cc
 
 abbrev is_there : {X : Type 0} → List X → Bool
 is_there [] = false

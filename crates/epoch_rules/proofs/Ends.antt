@@ -63,9 +63,3 @@ ends_before m (Some x) h = to_not_le x m (lt_from m x h)
 pub moment_ends : (m : ℤ) (a : Option ℤ) → is_before_end m a ≡ true → ends_by (Some m) a ≡ true
 moment_ends m None h = refl
 moment_ends m (Some x) h = let low = lt_from m x h in to_le m x (omega (arith, ints))
-
-pub le_trans : (a b c : ℤ) → int_le a b ≡ true → int_le b c ≡ true → int_le a c ≡ true
-le_trans a b c h k =
-    let low = le_from a b h in
-    let high = le_from b c k in
-    to_le a c (omega (arith, ints))

@@ -1,7 +1,6 @@
 -- Lines that are kept make of a catalog a catalog.
 use Rattle.std.proofs.Common.{◌≡◌, ℕ, ◌==◌, Bool, true, false, not, ◌&&◌, ◌||◌, List, [], ◌∷◌, ◌++◌, Option, Some, None, refl, sym, ap, subst, ◌∙◌, if◌then◌else◌, Ordering}
 use Rattle.std.specs.List.{list_any, AllByRecursion}
-use Rattle.std.specs.Prelude.{Result, Ok, Err, OnOk, OnErr}
 use Rattle.std.specs.Ordering.{is_eq, nat_cmp, ordering_then, ordering_reverse}
 use Rattle.std.specs.declared.cmp.Ordering.TheVariants.{Less, Equal, Greater}
 use Rattle.std.specs.Cmp.{IsTotalOrder}
@@ -199,8 +198,3 @@ kept_lines live (e ∷ lines) h kept =
 -- no lines are a catalog
 pub no_lines : IsCatalog []
 no_lines = record { rises = empty_sorted entries_total; states = tt; apart = refl; rests = refl }
-
--- what both answers lead to
-pub on_either : {T E : Type 0} (r : Result T E) {P Q R : Type 0} → OnOk r P → OnErr r Q → (P → R) → (Q → R) → R
-on_either (Ok x) p q f g = f p
-on_either (Err e) p q f g = g q

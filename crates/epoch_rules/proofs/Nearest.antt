@@ -43,9 +43,6 @@ split_less Greater b h = cc
 less_then : (a b : Ordering) → a ≡ Less → ordering_then a b ≡ Less
 less_then a b h = ap (λ o. ordering_then o b) h
 
-less_apart : Less ≡ Greater → ⊥
-less_apart h = let wrong : true ≡ false = ap is_lt h in both_ways true wrong refl
-
 -- a family that a key begins doesn't end before another key of it
 pub between : (a p b : KeyParts) → family_cmp a b ≡ Equal → parts_cmp a p ≡ Less → (parts_cmp b p ≡ Less → ⊥) → (family_cmp a p ≡ Equal) × (int_le a.start p.start ≡ true)
 between a p b same up stop =

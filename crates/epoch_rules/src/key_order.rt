@@ -9,15 +9,25 @@ use epochs::{Glob, Key, Line};
 use exact_time::Moment;
 use std::cmp::Ordering;
 
-// The ranks of kinds (`specs/KeyOrder.antt`).
+/// The rank of networks: the first of the kinds (`rank_of` of `specs/KeyOrder.antt`).
 pub const NETWORK: u8 = 0;
 
+/// The rank of stations.
 pub const STATION: u8 = 1;
 
+/// The rank of channels.
 pub const CHANNEL: u8 = 2;
 
+/// The rank of events.
+pub const EVENT: u8 = 3;
+
+/// The rank of restrictions.
+pub const RESTRICTION: u8 = 4;
+
+/// The rank of grants.
 pub const GRANT: u8 = 5;
 
+/// The rank of users: the last of the kinds.
 pub const USER: u8 = 6;
 
 /// The parts of a key that are compared, in the order of `specs/KeyOrder.antt`.
@@ -83,7 +93,7 @@ fn grant<'a>(
     ensures { view_seen result ≡ view_of 5 user.now network.now.text station.now.text location.now.text channel.now.text start.micros }
 {
     KeyView {
-        rank: 5,
+        rank: GRANT,
         first: user,
         second: network.text.as_slice(),
         third: station.text.as_slice(),
@@ -98,21 +108,28 @@ fn deleted(key: &Key) -> KeyView<'_>
     ensures { view_seen result ≡ key_parts (key_seen key.now) }
 {
     match key {
-        Key::Net { network, start } => epoch(0, network.as_slice(), &[], &[], &[], *start),
+        Key::Net { network, start } => epoch(NETWORK, network.as_slice(), &[], &[], &[], *start),
         Key::Sta {
             network,
             station,
             start,
-        } => epoch(1, network.as_slice(), station.as_slice(), &[], &[], *start),
+        } => epoch(
+            STATION,
+            network.as_slice(),
+            station.as_slice(),
+            &[],
+            &[],
+            *start,
+        ),
         Key::Cha { name, start } => epoch(
-            2,
+            CHANNEL,
             name.network.as_slice(),
             name.station.as_slice(),
             name.location.as_slice(),
             name.channel.as_slice(),
             *start,
         ),
-        Key::Evt { id } => named(3, id.as_slice()),
+        Key::Evt { id } => named(EVENT, id.as_slice()),
         Key::Rst {
             network,
             station,
@@ -120,7 +137,7 @@ fn deleted(key: &Key) -> KeyView<'_>
             channel,
             start,
         } => epoch(
-            4,
+            RESTRICTION,
             network.text.as_slice(),
             station.text.as_slice(),
             location.text.as_slice(),
@@ -135,7 +152,7 @@ fn deleted(key: &Key) -> KeyView<'_>
             channel,
             start,
         } => grant(user.as_slice(), network, station, location, channel, *start),
-        Key::Usr { name } => named(6, name.as_slice()),
+        Key::Usr { name } => named(USER, name.as_slice()),
     }
 }
 
@@ -144,9 +161,9 @@ pub fn key_view(line: &Line) -> KeyView<'_>
     ensures { view_seen result ≡ parts_of (seen line.now) }
 {
     match line {
-        Line::Net(net) => epoch(0, net.network.as_slice(), &[], &[], &[], net.start),
+        Line::Net(net) => epoch(NETWORK, net.network.as_slice(), &[], &[], &[], net.start),
         Line::Sta(sta) => epoch(
-            1,
+            STATION,
             sta.network.as_slice(),
             sta.station.as_slice(),
             &[],
@@ -154,16 +171,16 @@ pub fn key_view(line: &Line) -> KeyView<'_>
             sta.start,
         ),
         Line::Cha(cha) => epoch(
-            2,
+            CHANNEL,
             cha.name.network.as_slice(),
             cha.name.station.as_slice(),
             cha.name.location.as_slice(),
             cha.name.channel.as_slice(),
             cha.start,
         ),
-        Line::Evt(event) => named(3, event.id.as_slice()),
+        Line::Evt(event) => named(EVENT, event.id.as_slice()),
         Line::Rst(rst) => epoch(
-            4,
+            RESTRICTION,
             rst.network.text.as_slice(),
             rst.station.text.as_slice(),
             rst.location.text.as_slice(),
@@ -178,7 +195,7 @@ pub fn key_view(line: &Line) -> KeyView<'_>
             &grt.channel,
             grt.start,
         ),
-        Line::Usr(user) => named(6, user.name.as_slice()),
+        Line::Usr(user) => named(USER, user.name.as_slice()),
         Line::Del(deletion) => deleted(&deletion.key),
     }
 }

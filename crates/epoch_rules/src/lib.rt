@@ -36,6 +36,6 @@ mod spans;
 pub use check::check_lines;
 pub use check_law::lines_are_kept_or_one_is_the_first_broken;
 pub use index::Index;
-pub use key_order::{KeyView, cmp_keys, key_view};
+pub use key_order::{CHANNEL, KeyView, NETWORK, STATION, USER, cmp_keys, key_view};
 pub use relations::says;
 pub use rule::{CheckFault, Rule};
