@@ -3,7 +3,7 @@ use Rattle.std.proofs.Common.{◌≡◌, ℕ, ◌+◌, List, [], ◌∷◌, ◌+
 use Rattle.std.proofs.lemmas.List.{append-nil}
 use Rattle.std.specs.List.{AllByRecursion}
 use Rattle.archive_journal.specs.Frames.{magic, open_gate, body_of, frames, front_of}
-use Rattle.archive_journal.specs.Journal.{gates_from, IsPlaced}
+use Rattle.archive_journal.specs.Journal.{gates_from, HasGatesAt}
 
 pub length-body_of : (p : List ℕ) → length (body_of p) ≡ length p + 4
 length-body_of p = omega arith
@@ -47,6 +47,6 @@ get_or-gates_from at (p ∷ ps) zero d lt = omega arith
 get_or-gates_from at (p ∷ ps) (suc k) d lt = omega (arith, get_or-gates_from (at + 5 + length p) ps k d (omega arith), length-append (body_of p) (frames (take k ps)), length-body_of p)
 
 -- each payload's gate stands behind those before it
-pub gate_at : (ps : List (List ℕ)) (offsets : List ℕ) (end : ℕ) → IsPlaced ps offsets end → (k d : ℕ) → k < length ps → get_or offsets k d ≡ length (front_of (take k ps))
+pub gate_at : (ps : List (List ℕ)) (offsets : List ℕ) (end : ℕ) → HasGatesAt ps offsets end → (k d : ℕ) → k < length ps → get_or offsets k d ≡ length (front_of (take k ps))
 unfolding front_of
 gate_at ps offsets end placed k d lt = ap (λ (l : List ℕ). get_or l k d) placed.offsets_are ∙ get_or-gates_from 16 ps k d lt ∙ omega (arith, length-append magic (frames (take k ps)))

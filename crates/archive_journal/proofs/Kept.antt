@@ -5,7 +5,7 @@ use Rattle.std.proofs.lemmas.Bool.{false≢true}
 use Rattle.exact_time.specs.Causes.{Rose}
 use Rattle.disk_model.specs.Disk.{Leaves, LeavesOnly}
 use Rattle.archive_journal.specs.Frames.{magic, open_gate, body_of, reading_of, holding, front_of, IsSized, IsJournal, Holds, HoldsWithOrWithout}
-use Rattle.archive_journal.specs.Journal.{gates_from, payloads_in, first_payloads, IsPlaced, IsJournalWithOrWithout, IsSettled, IsHalted, IsKept, added_to}
+use Rattle.archive_journal.specs.Journal.{gates_from, payloads_in, first_payloads, HasGatesAt, IsJournalWithOrWithout, IsOnDisk, IsHalted, IsOpenJournal, added_to}
 use Rattle.archive_journal.specs.Faults.{ExplainsRecover}
 use Rattle.archive_journal.specs.Recovery.{IsFound, Explains}
 use Rattle.archive_journal.specs.declared.fault.RecoverFault.{RecoverFault}
@@ -19,7 +19,7 @@ length-gates_from at [] = refl
 length-gates_from at (p ∷ ps) = omega (arith, length-gates_from (at + 5 + length p) ps)
 
 -- so many payloads as gates
-pub length-placed : (ps : List (List ℕ)) (offsets : List ℕ) (end : ℕ) → IsPlaced ps offsets end → length offsets ≡ length ps
+pub length-placed : (ps : List (List ℕ)) (offsets : List ℕ) (end : ℕ) → HasGatesAt ps offsets end → length offsets ≡ length ps
 length-placed ps offsets end placed = ap length placed.offsets_are ∙ length-gates_from 16 ps
 
 -- the first payloads of a journal are all of them
@@ -34,15 +34,15 @@ first_payloads-more ps p file count is (inr journal) = ap (λ r. take count (pay
 pub holds_either : (ps : List (List ℕ)) (p : List ℕ) → Leaves (IsJournalWithOrWithout ps p) (HoldsWithOrWithout ps p)
 holds_either ps p file = ⊎_elim (λ journal. inl (reading_of-journal ps file journal)) (λ journal. inr (reading_of-journal (ps ++ p ∷ []) file journal))
 
-module _ {D : Type 0} (tells : D → Bool) (seen : D → List ℕ) (may_leave : D → List ℕ → Type 0) (faults : D → ℕ) (disk opened : D) (offsets : List ℕ) (end : ℕ) (stopped : Bool) (kept : IsKept tells seen may_leave faults disk opened offsets end stopped) (told : tells disk ≡ true) where
+module _ {D : Type 0} (tells : D → Bool) (content : D → List ℕ) (may_leave : D → List ℕ → Type 0) (faults : D → ℕ) (disk opened : D) (offsets : List ℕ) (end : ℕ) (stopped : Bool) (kept : IsOpenJournal tells content may_leave faults disk opened offsets end stopped) (told : tells disk ≡ true) where
   abbrev ps : List (List ℕ)
-  ps = first_payloads (length offsets) (seen disk)
+  ps = first_payloads (length offsets) (content disk)
 
-  placed_if : (b : Bool) → stopped ≡ b → IsPlaced ps offsets end
+  placed_if : (b : Bool) → stopped ≡ b → HasGatesAt ps offsets end
   placed_if false is = (kept.settled told is).placed
   placed_if true is = (kept.halted told is).placed
 
-  pub placed_now : IsPlaced ps offsets end
+  pub placed_now : HasGatesAt ps offsets end
   placed_now = placed_if stopped refl
 
   pub count_now : length offsets ≡ length ps
@@ -50,20 +50,20 @@ module _ {D : Type 0} (tells : D → Bool) (seen : D → List ℕ) (may_leave : 
 
   -- while no commit failed, every image holds the payloads
   pub images_running : stopped ≡ false → Leaves (may_leave disk) (Holds ps)
-  images_running on image left = let s = kept.settled told on in subst (Holds ps) (sym (s.synced image left)) (reading_of-journal ps (seen disk) s.journal)
+  images_running on image left = let s = kept.settled told on in subst (Holds ps) (sym (s.synced image left)) (reading_of-journal ps (content disk) s.journal)
 
   pub images_halted : stopped ≡ true → (hand : List ℕ) × Leaves (may_leave disk) (HoldsWithOrWithout ps hand)
   images_halted off = let h = kept.halted told off in (h.hand, λ image left. holds_either ps h.hand image (h.either image left))
 
   -- what a read gives begins with the payloads
-  pub file_now : may_leave disk (seen disk) → (rest : List ℕ) × (seen disk ≡ front_of ps ++ rest)
+  pub file_now : may_leave disk (content disk) → (rest : List ℕ) × (content disk ≡ front_of ps ++ rest)
   file_now reads = file_if stopped refl
     where
-      file_if : (b : Bool) → stopped ≡ b → (rest : List ℕ) × (seen disk ≡ front_of ps ++ rest)
+      file_if : (b : Bool) → stopped ≡ b → (rest : List ℕ) × (content disk ≡ front_of ps ++ rest)
       file_if false is = let j = (kept.settled told is).journal in (j.gate ∷ j.rest, j.file_is)
       file_if true is =
           let h = kept.halted told is in
-          elim (h.either (seen disk) reads) [
+          elim (h.either (content disk) reads) [
             | inl j ↦ (j.gate ∷ j.rest, j.file_is)
             | inr j ↦ (open_gate ∷ body_of h.hand ++ (j.gate ∷ j.rest), j.file_is ∙ front_of-push ps h.hand (j.gate ∷ j.rest))
           ]
@@ -92,12 +92,12 @@ found_empty file offsets is none = record {
 }
 
 -- a journal to which a frame was added
-pub found_added : (seen : List ℕ) (images : List ℕ → Type 0) (ps : List (List ℕ)) (offsets : List ℕ) (end : ℕ) → IsSettled seen images ps offsets end → (p seen' offsets' : List ℕ) → IsSized p → seen' ≡ added_to seen end p → offsets' ≡ offsets ++ end ∷ []
-    → IsFound seen' offsets' (end + (length p + 5))
-found_added seen images ps offsets end settled p seen' offsets' sized is pushed =
+pub found_added : (content : List ℕ) (images : List ℕ → Type 0) (ps : List (List ℕ)) (offsets : List ℕ) (end : ℕ) → IsOnDisk content images ps offsets end → (p content' offsets' : List ℕ) → IsSized p → content' ≡ added_to content end p → offsets' ≡ offsets ++ end ∷ []
+    → IsFound content' offsets' (end + (length p + 5))
+found_added content images ps offsets end settled p content' offsets' sized is pushed =
     let placed = settled.placed in record {
       payloads = ps ++ p ∷ [];
-      journal = subst (IsJournal (ps ++ p ∷ [])) (sym is) (added ps seen settled.journal end placed.end_is p sized);
+      journal = subst (IsJournal (ps ++ p ∷ [])) (sym is) (added ps content settled.journal end placed.end_is p sized);
       placed = record {
         sized = all_push IsSized ps p placed.sized sized;
         offsets_are = pushed ∙ (λ i. placed.offsets_are i ++ placed.end_is i ∷ []) ∙ sym (gates_from-push ps p);
@@ -106,31 +106,31 @@ found_added seen images ps offsets end settled p seen' offsets' sized is pushed 
     }
 
 -- has that payload behind the others
-pub added_payloads : (seen : List ℕ) (images : List ℕ → Type 0) (ps : List (List ℕ)) (offsets : List ℕ) (end : ℕ) → IsSettled seen images ps offsets end → (p seen' offsets' : List ℕ) → IsSized p → seen' ≡ added_to seen end p → offsets' ≡ offsets ++ end ∷ []
-    → first_payloads (length offsets') seen' ≡ ps ++ p ∷ []
+pub added_payloads : (content : List ℕ) (images : List ℕ → Type 0) (ps : List (List ℕ)) (offsets : List ℕ) (end : ℕ) → IsOnDisk content images ps offsets end → (p content' offsets' : List ℕ) → IsSized p → content' ≡ added_to content end p → offsets' ≡ offsets ++ end ∷ []
+    → first_payloads (length offsets') content' ≡ ps ++ p ∷ []
 unfolding found_added
-added_payloads seen images ps offsets end settled p seen' offsets' sized is pushed = found_payloads seen' offsets' (end + (length p + 5)) (found_added seen images ps offsets end settled p seen' offsets' sized is pushed)
+added_payloads content images ps offsets end settled p content' offsets' sized is pushed = found_payloads content' offsets' (end + (length p + 5)) (found_added content images ps offsets end settled p content' offsets' sized is pushed)
 
-module _ {D : Type 0} (tells : D → Bool) (seen : D → List ℕ) (may_leave : D → List ℕ → Type 0) (faults : D → ℕ) (disk opened : D) (offsets : List ℕ) (end : ℕ) where
+module _ {D : Type 0} (tells : D → Bool) (content : D → List ℕ) (may_leave : D → List ℕ → Type 0) (faults : D → ℕ) (disk opened : D) (offsets : List ℕ) (end : ℕ) where
   -- a journal that runs: its frames were found, and it is synced
-  pub kept_running : end < 2 ^ 63 → (tells disk ≡ true → IsFound (seen disk) offsets end) → (tells disk ≡ true → LeavesOnly (may_leave disk) (seen disk)) → faults opened ≤ faults disk
-      → IsKept tells seen may_leave faults disk opened offsets end false
+  pub kept_running : end < 2 ^ 63 → (tells disk ≡ true → IsFound (content disk) offsets end) → (tells disk ≡ true → LeavesOnly (may_leave disk) (content disk)) → faults opened ≤ faults disk
+      → IsOpenJournal tells content may_leave faults disk opened offsets end false
   kept_running fits found synced later = record {
     fits = fits;
-    settled = λ told on. let f = found told in subst (λ (ps : List (List ℕ)). IsSettled (seen disk) (may_leave disk) ps offsets end) (sym (found_payloads (seen disk) offsets end f)) (record { placed = f.placed; journal = f.journal; synced = synced told });
+    settled = λ told on. let f = found told in subst (λ (ps : List (List ℕ)). IsOnDisk (content disk) (may_leave disk) ps offsets end) (sym (found_payloads (content disk) offsets end f)) (record { placed = f.placed; journal = f.journal; synced = synced told });
     halted = λ told off. absurd (false≢true off);
     later = later;
     cause = λ off. absurd (false≢true off);
   }
 
   -- a journal that a failed commit stopped: each image is a journal of its payloads, with the one in hand or without
-  pub kept_halted : end < 2 ^ 63 → (tells disk ≡ true → may_leave disk (seen disk)) → (ps : List (List ℕ)) (p : List ℕ) → (tells disk ≡ true → IsPlaced ps offsets end) → (tells disk ≡ true → Leaves (may_leave disk) (IsJournalWithOrWithout ps p)) → Rose (faults opened) (faults disk) → faults opened ≤ faults disk
-      → IsKept tells seen may_leave faults disk opened offsets end true
+  pub kept_halted : end < 2 ^ 63 → (tells disk ≡ true → may_leave disk (content disk)) → (ps : List (List ℕ)) (p : List ℕ) → (tells disk ≡ true → HasGatesAt ps offsets end) → (tells disk ≡ true → Leaves (may_leave disk) (IsJournalWithOrWithout ps p)) → Rose (faults opened) (faults disk) → faults opened ≤ faults disk
+      → IsOpenJournal tells content may_leave faults disk opened offsets end true
   kept_halted fits reads ps p placed either cause later = record {
     fits = fits;
     settled = λ told on. absurd (false≢true (sym on));
     halted = λ told off.
-        let same = first_payloads-more ps p (seen disk) (length offsets) (length-placed ps offsets end (placed told)) (either told (seen disk) (reads told)) in
+        let same = first_payloads-more ps p (content disk) (length offsets) (length-placed ps offsets end (placed told)) (either told (content disk) (reads told)) in
         subst (λ (qs : List (List ℕ)). IsHalted (may_leave disk) qs offsets end) (sym same) (record { placed = placed told; hand = p; either = either told });
     later = later;
     cause = λ off. cause;

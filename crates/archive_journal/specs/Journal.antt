@@ -52,7 +52,7 @@ abbrev pub first_payloads : ℕ → List ℕ → List (List ℕ)
 first_payloads count file = take count (payloads_in (reading_of file))
 
 -- where the gates of these payloads stand, and the closed gate behind them
-pub record IsPlaced (payloads : List (List ℕ)) (offsets : List ℕ) (end : ℕ) : Type 0 where
+pub record HasGatesAt (payloads : List (List ℕ)) (offsets : List ℕ) (end : ℕ) : Type 0 where
   pub sized : AllByRecursion IsSized payloads
   pub offsets_are : offsets ≡ gates_from 16 payloads
   pub end_is : end ≡ length (front_of payloads)
@@ -62,21 +62,21 @@ abbrev pub IsJournalWithOrWithout : List (List ℕ) → List ℕ → List ℕ �
 IsJournalWithOrWithout payloads payload file = IsJournal payloads file ⊎ IsJournal (payloads ++ payload ∷ []) file
 
 -- the file is a journal of these payloads, and all of it is on the disk
-pub record IsSettled (seen : List ℕ) (images : List ℕ → Type 0) (payloads : List (List ℕ)) (offsets : List ℕ) (end : ℕ) : Type 0 where
-  pub placed : IsPlaced payloads offsets end
-  pub journal : IsJournal payloads seen
-  pub synced : LeavesOnly images seen
+pub record IsOnDisk (content : List ℕ) (images : List ℕ → Type 0) (payloads : List (List ℕ)) (offsets : List ℕ) (end : ℕ) : Type 0 where
+  pub placed : HasGatesAt payloads offsets end
+  pub journal : IsJournal payloads content
+  pub synced : LeavesOnly images content
 
 -- each image is a journal of these payloads, or of these and the one that was in hand when a commit failed
 pub record IsHalted (images : List ℕ → Type 0) (payloads : List (List ℕ)) (offsets : List ℕ) (end : ℕ) : Type 0 where
-  pub placed : IsPlaced payloads offsets end
+  pub placed : HasGatesAt payloads offsets end
   pub hand : List ℕ
   pub either : Leaves images (IsJournalWithOrWithout payloads hand)
 
 -- what the type of a journal keeps
-pub record IsKept {D : Type 0} (tells : D → Bool) (seen : D → List ℕ) (may_leave : D → List ℕ → Type 0) (faults : D → ℕ) (disk opened : D) (offsets : List ℕ) (end : ℕ) (stopped : Bool) : Type 0 where
+pub record IsOpenJournal {D : Type 0} (tells : D → Bool) (content : D → List ℕ) (may_leave : D → List ℕ → Type 0) (faults : D → ℕ) (disk opened : D) (offsets : List ℕ) (end : ℕ) (stopped : Bool) : Type 0 where
   pub fits : end < 2 ^ 63
-  pub settled : tells disk ≡ true → stopped ≡ false → IsSettled (seen disk) (may_leave disk) (first_payloads (length offsets) (seen disk)) offsets end
-  pub halted : tells disk ≡ true → stopped ≡ true → IsHalted (may_leave disk) (first_payloads (length offsets) (seen disk)) offsets end
+  pub settled : tells disk ≡ true → stopped ≡ false → IsOnDisk (content disk) (may_leave disk) (first_payloads (length offsets) (content disk)) offsets end
+  pub halted : tells disk ≡ true → stopped ≡ true → IsHalted (may_leave disk) (first_payloads (length offsets) (content disk)) offsets end
   pub later : faults opened ≤ faults disk
   pub cause : stopped ≡ true → Rose (faults opened) (faults disk)

@@ -1,7 +1,7 @@
 -- What a recovery finds, gate by gate, and why it ends early.
 use Rattle.std.specs.Prelude.{◌≡◌, ◌≢◌, ℕ, ◌+◌, List, ◌∷◌, ◌++◌, length, Option, Some, None, Result, Ok, Err, ⊤}
 use Rattle.archive_journal.specs.Frames.{open_gate, body_of, front_of, IsSized, IsJournal, IsBroken, IsDamaged, IsNoJournal}
-use Rattle.archive_journal.specs.Journal.{IsPlaced}
+use Rattle.archive_journal.specs.Journal.{HasGatesAt}
 use Rattle.archive_journal.specs.declared.fault.RecoverFault.{RecoverFault}
 use Rattle.archive_journal.specs.declared.fault.RecoverFault.TheVariants.{DiskFault, NotAJournal, Damaged, OutOfMemory}
 
@@ -33,14 +33,14 @@ IsNext rest at (Err OutOfMemory) = ⊤
 pub record IsFound (file offsets : List ℕ) (end : ℕ) : Type 0 where
   pub payloads : List (List ℕ)
   pub journal : IsJournal payloads file
-  pub placed : IsPlaced payloads offsets end
+  pub placed : HasGatesAt payloads offsets end
 
 -- so far there are whole open frames, whose gates stand there
 pub record IsWalked (file offsets : List ℕ) (at : ℕ) : Type 0 where
   pub payloads : List (List ℕ)
   pub rest : List ℕ
   pub file_is : file ≡ front_of payloads ++ rest
-  pub placed : IsPlaced payloads offsets at
+  pub placed : HasGatesAt payloads offsets at
 
 -- a fault that the file's bytes have; the disk's and want of memory have other causes
 abbrev pub Explains : List ℕ → RecoverFault → Type 0

@@ -1,5 +1,5 @@
 //! An open journal.
-ghost use Rattle.std.specs.Prelude.{◌≡◌, ◌⊎◌, ◌+◌, ◌-◌, ◌<◌, ◌≤◌, ◌++◌, [], ◌∷◌, true, false, ℕ, length, take, drop, Some, slice_get, IfOk, IfErr, OnOk, OnErr, IsErr, IsErrOf};
+ghost use Rattle.std.specs.Prelude.{◌≡◌, ◌≢◌, ◌⊎◌, ◌+◌, ◌-◌, ◌<◌, ◌≤◌, ◌++◌, [], ◌∷◌, true, false, ℕ, length, take, drop, Some, slice_get, IfOk, IfErr, OnOk, OnErr, MatchResult, IsErr, IsErrOf};
 ghost use Rattle.exact_time.specs.Causes.{Rose};
 ghost use Rattle.disk_model.specs.Disk.{Torn, Leaves, LeavesOnly, AlwaysLeaves};
 ghost use Rattle.archive_journal.specs.Frames.{magic, closed_gate, reading_of, Holds, HoldsWithOrWithout};
@@ -31,20 +31,20 @@ pub struct Journal<D: Disk> {
 impl<D: Disk> Model for Journal<D> {
     ghost use Rattle.std.specs.Prelude.{◌-◌, length};
     ghost use Rattle.std.specs.Vec.{vec_len, vec_capacity};
-    ghost use Rattle.archive_journal.specs.Journal.{Opened, IsKept, first_payloads};
+    ghost use Rattle.archive_journal.specs.Journal.{Opened, IsOpenJournal, first_payloads};
 
     ghost Value = { Opened D };
 
     ghost view = { λ j. record {
       disk = j.disk;
-      payloads = first_payloads (length j.offsets.items) (D.seen j.disk);
+      payloads = first_payloads (length j.offsets.items) (D.content j.disk);
       count = length j.offsets.items;
       spare = vec_capacity j.offsets - vec_len j.offsets;
       stopped = j.stopped;
       faults = D.faults j.opened.value;
     } };
 
-    ghost invariant = { λ j. IsKept D.tells D.seen D.may_leave D.faults j.disk j.opened.value j.offsets.items j.end j.stopped };
+    ghost invariant = { λ j. IsOpenJournal D.tells D.content D.may_leave D.faults j.disk j.opened.value j.offsets.items j.end j.stopped };
 }
 
 impl<D: Disk> Journal<D> {
@@ -56,22 +56,22 @@ impl<D: Disk> Journal<D> {
     /// memory.
     pub fn init(alloc: Global, mut disk: D) -> Result<Journal<D>, (D, InitFault)>
         ensures tells { D.tells (disk_in result) ≡ D.tells disk }
-        ensures empty { D.tells disk ≡ true → OnOk result (D.seen disk ≡ []) }
+        ensures empty { D.tells disk ≡ true → OnOk result (D.content disk ≡ []) }
         ensures written { D.tells disk ≡ true
-            → IfOk result (λ j. D.seen j.disk ≡ magic ++ closed_gate ∷ []) }
+            → IfOk result (λ j. D.content j.disk ≡ magic ++ closed_gate ∷ []) }
         ensures synced { D.tells disk ≡ true
-            → IfOk result (λ j. LeavesOnly (D.may_leave j.disk) (D.seen j.disk)) }
+            → IfOk result (λ j. LeavesOnly (D.may_leave j.disk) (D.content j.disk)) }
         ensures payloads { D.tells disk ≡ true
-            → IfOk result (λ j. (j.payloads ≡ []) × Holds [] (D.seen j.disk)) }
+            → IfOk result (λ j. (j.payloads ≡ []) × Holds [] (D.content j.disk)) }
         ensures opened { IfOk result (λ j. (j.count ≡ 0) × (j.stopped ≡ false) × (j.faults ≡ D.faults j.disk)) }
 
         ensures fault { D.tells disk ≡ true
-            → IfErr result (λ refused. ExplainsInit (D.seen disk) refused.1) }
+            → IfErr result (λ refused. ExplainsInit (D.content disk) refused.1) }
         ensures kept { D.tells disk ≡ true
             → IfErr result (λ refused. (len : ℕ) → refused.1 ≡ InitFault.NotEmpty len
-            → (D.seen refused.0 ≡ D.seen disk) × Leaves (D.may_leave refused.0) (D.may_leave disk)) }
+            → (D.content refused.0 ≡ D.content disk) × Leaves (D.may_leave refused.0) (D.may_leave disk)) }
         ensures torn { D.tells disk ≡ true
-            → IfErr result (λ refused. Torn 0 17 (D.seen disk) (D.seen refused.0)) }
+            → IfErr result (λ refused. Torn 0 17 (D.content disk) (D.content refused.0)) }
         ensures later { D.faults disk ≤ D.faults (disk_in result) }
         ensures cause { IfErr result (λ refused. refused.1 ≡ InitFault.DiskFault
             → Rose (D.faults disk) (D.faults refused.0)) }
@@ -88,21 +88,24 @@ impl<D: Disk> Journal<D> {
         }
     }
 
-    /// Opens the journal that a file is, after a crash too. It begins with a sync, and gives the disk no
-    /// write and no cut: the disk reads as before. A file with fewer than 17 bytes or another magic is
+    /// Opens the journal that a file is, after a crash too. It begins with a sync, so that what it says of
+    /// the file stays so: after every answer but `DiskFault` a crash leaves what a read gives, also where
+    /// that is refused. It gives the disk no write and no cut: the disk reads as before. A file with fewer than 17 bytes or another magic is
     /// `NotAJournal`; else the payloads are those of the frames up to the first closed gate, and a gate
     /// that is missing, or is open before a length of 0, over the limit or past the end of the file, is
     /// `Damaged` at its offset.
     pub fn recover(alloc: Global, mut disk: D) -> Result<Journal<D>, (D, RecoverFault)>
         ensures tells { D.tells (disk_in result) ≡ D.tells disk }
-        ensures payloads { D.tells disk ≡ true → IfOk result (λ j. Holds j.payloads (D.seen disk)) }
+        ensures payloads { D.tells disk ≡ true → IfOk result (λ j. Holds j.payloads (D.content disk)) }
+        // Unless the disk failed, each image is what a read gives, also where that is no journal.
         ensures synced { D.tells disk ≡ true
-            → IfOk result (λ j. LeavesOnly (D.may_leave j.disk) (D.seen disk)) }
+            → MatchResult result (λ j. LeavesOnly (D.may_leave j.disk) (D.content disk))
+            (λ refused. refused.1 ≢ RecoverFault.DiskFault → LeavesOnly (D.may_leave refused.0) (D.content disk)) }
         ensures opened { IfOk result (λ j. (j.stopped ≡ false) × (j.faults ≡ D.faults j.disk)) }
 
         ensures fault { D.tells disk ≡ true
-            → IfErr result (λ refused. ExplainsRecover (reading_of (D.seen disk)) refused.1) }
-        ensures seen { D.tells disk ≡ true → D.seen (disk_in result) ≡ D.seen disk }
+            → IfErr result (λ refused. ExplainsRecover (reading_of (D.content disk)) refused.1) }
+        ensures content { D.tells disk ≡ true → D.content (disk_in result) ≡ D.content disk }
         ensures crash { D.tells disk ≡ true → Leaves (D.may_leave (disk_in result)) (D.may_leave disk) }
         // At every moment of the call, every image is one that was there before.
         ensures any_moment { D.tells disk ≡ true
@@ -171,7 +174,7 @@ impl<D: Disk> Journal<D> {
         ensures durable { D.tells self.old.disk ≡ true
             → OnOk result (Leaves (D.may_leave self.new.disk) (Holds self.new.payloads)) }
         ensures written { D.tells self.old.disk ≡ true
-            → OnOk result (D.seen self.new.disk ≡ added_to (D.seen self.old.disk) (gate_of self.old.payloads (self.old.count + 1)) frame.now) }
+            → OnOk result (D.content self.new.disk ≡ added_to (D.content self.old.disk) (gate_of self.old.payloads (self.old.count + 1)) frame.now) }
         ensures number { IfOk result (λ n. n ≡ self.new.count) }
         ensures last { D.tells self.old.disk ≡ true → IfOk result (λ n. n ≡ length self.new.payloads) }
         ensures ok { OnOk result (self.new ≡ record self.old {
@@ -211,7 +214,7 @@ impl<D: Disk> Journal<D> {
             → IfOk result (λ bytes. slice_get self.old.payloads (n - 1) ≡ Some bytes) }
         ensures same { self.new ≡ record self.old { disk = self.new.disk; payloads = self.new.payloads } }
         ensures payloads { D.tells self.old.disk ≡ true → self.new.payloads ≡ self.old.payloads }
-        ensures seen { D.tells self.old.disk ≡ true → D.seen self.new.disk ≡ D.seen self.old.disk }
+        ensures content { D.tells self.old.disk ≡ true → D.content self.new.disk ≡ D.content self.old.disk }
         ensures crash { D.tells self.old.disk ≡ true
             → Leaves (D.may_leave self.new.disk) (D.may_leave self.old.disk) }
         ensures any_moment { D.tells self.old.disk ≡ true
@@ -259,8 +262,8 @@ const HEAD: u64 = 5;
 fn read_bytes<D: Disk>(alloc: Global, disk: &mut D, at: u64, len: usize) -> Result<Bytes, ReadFault>
     ensures tells { D.tells disk.new ≡ D.tells disk.old }
     ensures bytes { D.tells disk.old ≡ true
-        → IfOk result (λ bytes. bytes ≡ take len (drop at (D.seen disk.old))) }
-    ensures seen { D.tells disk.old ≡ true → D.seen disk.new ≡ D.seen disk.old }
+        → IfOk result (λ bytes. bytes ≡ take len (drop at (D.content disk.old))) }
+    ensures content { D.tells disk.old ≡ true → D.content disk.new ≡ D.content disk.old }
     ensures crash { D.tells disk.old ≡ true → Leaves (D.may_leave disk.new) (D.may_leave disk.old) }
     ensures any_moment { D.tells disk.old ≡ true
         → AlwaysLeaves D.moment D.left_since disk.old disk.new (D.may_leave disk.old) }

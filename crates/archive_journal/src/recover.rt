@@ -1,5 +1,5 @@
 //! Finds the frames of a file that a crash may have left, by reading alone.
-ghost use Rattle.std.specs.Prelude.{◌≡◌, ◌+◌, ◌^◌, ◌<◌, ◌≤◌, ℕ, List, true, length, take, drop, IfOk, IfErr, IfSome, OnOk, IsErrOf};
+ghost use Rattle.std.specs.Prelude.{◌≡◌, ◌≢◌, ◌+◌, ◌^◌, ◌<◌, ◌≤◌, ℕ, List, true, length, take, drop, IfOk, IfErr, IfSome, OnOk, MatchResult, IsErrOf};
 ghost use Rattle.exact_time.specs.Causes.{Rose};
 ghost use Rattle.disk_model.specs.Disk.{Leaves, LeavesOnly, AlwaysLeaves};
 ghost use Rattle.archive_journal.specs.Frames.{magic};
@@ -49,9 +49,9 @@ fn read_gate<D: Disk>(disk: &mut D, at: u64, len: u64) -> Result<Option<u64>, Re
     requires { at < 2 ^ 63 }
     ensures tells { D.tells disk.new ≡ D.tells disk.old }
     ensures next { D.tells disk.old ≡ true
-        → len ≡ length (D.seen disk.old) → IsNext (drop at (D.seen disk.old)) at result }
+        → len ≡ length (D.content disk.old) → IsNext (drop at (D.content disk.old)) at result }
     ensures bound { IfOk result (λ next. IfSome next (λ next. (at < next) × (next ≤ len))) }
-    ensures seen { D.tells disk.old ≡ true → D.seen disk.new ≡ D.seen disk.old }
+    ensures content { D.tells disk.old ≡ true → D.content disk.new ≡ D.content disk.old }
     ensures crash { D.tells disk.old ≡ true → Leaves (D.may_leave disk.new) (D.may_leave disk.old) }
     ensures any_moment { D.tells disk.old ≡ true
         → AlwaysLeaves D.moment D.left_since disk.old disk.new (D.may_leave disk.old) }
@@ -67,9 +67,9 @@ fn read_gate<D: Disk>(disk: &mut D, at: u64, len: u64) -> Result<Option<u64>, Re
 fn check_magic<D: Disk>(disk: &mut D) -> Result<(), RecoverFault>
     ensures tells { D.tells disk.new ≡ D.tells disk.old }
     ensures magic { D.tells disk.old ≡ true
-        → OnOk result ((17 ≤ length (D.seen disk.old)) × (take 16 (D.seen disk.old) ≡ magic)) }
-    ensures fault { D.tells disk.old ≡ true → IfErr result (Explains (D.seen disk.old)) }
-    ensures seen { D.tells disk.old ≡ true → D.seen disk.new ≡ D.seen disk.old }
+        → OnOk result ((17 ≤ length (D.content disk.old)) × (take 16 (D.content disk.old) ≡ magic)) }
+    ensures fault { D.tells disk.old ≡ true → IfErr result (Explains (D.content disk.old)) }
+    ensures content { D.tells disk.old ≡ true → D.content disk.new ≡ D.content disk.old }
     ensures crash { D.tells disk.old ≡ true → Leaves (D.may_leave disk.new) (D.may_leave disk.old) }
     ensures any_moment { D.tells disk.old ≡ true
         → AlwaysLeaves D.moment D.left_since disk.old disk.new (D.may_leave disk.old) }
@@ -86,15 +86,15 @@ fn check_magic<D: Disk>(disk: &mut D) -> Result<(), RecoverFault>
 
 // Goes from gate to gate up to the first that is closed, in a file of `len` bytes with the magic.
 fn walk<D: Disk>(alloc: Global, disk: &mut D, len: u64) -> Result<Found, RecoverFault>
-    requires len { (len < 2 ^ 63) × (D.tells disk.old ≡ true → len ≡ length (D.seen disk.old)) }
+    requires len { (len < 2 ^ 63) × (D.tells disk.old ≡ true → len ≡ length (D.content disk.old)) }
     requires magic { D.tells disk.old ≡ true
-        → (17 ≤ length (D.seen disk.old)) × (take 16 (D.seen disk.old) ≡ magic) }
+        → (17 ≤ length (D.content disk.old)) × (take 16 (D.content disk.old) ≡ magic) }
     ensures tells { D.tells disk.new ≡ D.tells disk.old }
     ensures bound { IfOk result (λ found. found.end < 2 ^ 63) }
     ensures found { D.tells disk.old ≡ true
-        → IfOk result (λ found. IsFound (D.seen disk.old) found.offsets.items found.end) }
-    ensures fault { D.tells disk.old ≡ true → IfErr result (Explains (D.seen disk.old)) }
-    ensures seen { D.tells disk.old ≡ true → D.seen disk.new ≡ D.seen disk.old }
+        → IfOk result (λ found. IsFound (D.content disk.old) found.offsets.items found.end) }
+    ensures fault { D.tells disk.old ≡ true → IfErr result (Explains (D.content disk.old)) }
+    ensures content { D.tells disk.old ≡ true → D.content disk.new ≡ D.content disk.old }
     ensures crash { D.tells disk.old ≡ true → Leaves (D.may_leave disk.new) (D.may_leave disk.old) }
     ensures any_moment { D.tells disk.old ≡ true
         → AlwaysLeaves D.moment D.left_since disk.old disk.new (D.may_leave disk.old) }
@@ -110,16 +110,18 @@ fn walk<D: Disk>(alloc: Global, disk: &mut D, len: u64) -> Result<Found, Recover
     Ok(Found { offsets, end: at })
 }
 
-// Syncs, and finds the frames.
+// Syncs, and then finds the frames: unless the disk failed, what is read is on the disk, also where it is
+// no journal.
 pub(crate) fn find_frames<D: Disk>(alloc: Global, disk: &mut D) -> Result<Found, RecoverFault>
     ensures tells { D.tells disk.new ≡ D.tells disk.old }
     ensures bound { IfOk result (λ found. found.end < 2 ^ 63) }
     ensures found { D.tells disk.old ≡ true
-        → IfOk result (λ found. IsFound (D.seen disk.old) found.offsets.items found.end) }
+        → IfOk result (λ found. IsFound (D.content disk.old) found.offsets.items found.end) }
     ensures synced { D.tells disk.old ≡ true
-        → OnOk result (LeavesOnly (D.may_leave disk.new) (D.seen disk.old)) }
-    ensures fault { D.tells disk.old ≡ true → IfErr result (Explains (D.seen disk.old)) }
-    ensures seen { D.tells disk.old ≡ true → D.seen disk.new ≡ D.seen disk.old }
+        → MatchResult result (λ found. LeavesOnly (D.may_leave disk.new) (D.content disk.old))
+        (λ fault. fault ≢ RecoverFault.DiskFault → LeavesOnly (D.may_leave disk.new) (D.content disk.old)) }
+    ensures fault { D.tells disk.old ≡ true → IfErr result (Explains (D.content disk.old)) }
+    ensures content { D.tells disk.old ≡ true → D.content disk.new ≡ D.content disk.old }
     ensures crash { D.tells disk.old ≡ true → Leaves (D.may_leave disk.new) (D.may_leave disk.old) }
     ensures any_moment { D.tells disk.old ≡ true
         → AlwaysLeaves D.moment D.left_since disk.old disk.new (D.may_leave disk.old) }

@@ -15,7 +15,7 @@ fn disk_of(alloc: Global, file: &[u8], fails: &[u64]) -> Result<MemoryDisk, OutO
     for call in fails {
         numbers.push(*call)?;
     }
-    Ok(MemoryDisk::new(alloc, bytes, numbers))
+    MemoryDisk::new(alloc, bytes, numbers)
 }
 
 fn new_journal<D: Disk + Drop>(alloc: Global, disk: D) -> Result<Journal<D>, InitFault> {
@@ -170,6 +170,54 @@ fn keeps_seven_or_eight(rt: HostRuntime) -> Result<(), Fail> {
             counts.map(Ok),
             "after {calls}"
         );
+    }
+    Ok(())
+}
+
+// Whether a first commit is done, over a disk that stops after so many calls.
+fn commits_within(alloc: Global, calls: u64, payload: &[u8]) -> Result<bool, Fail>
+    requires { IsSized payload.now }
+{
+    let fuse = FuseDisk::new(disk_of(alloc, b"", &[])?, calls);
+    let mut journal = new_journal(alloc, fuse)?;
+    Ok(add(alloc, &mut journal, payload)?.is_ok())
+}
+
+// `init` makes three calls, and a commit four more, however long its payload is.
+#[test]
+fn commits_in_four_calls(rt: HostRuntime) -> Result<(), Fail> {
+    for (calls, done) in [(6, false), (7, true)] {
+        assert_eq!(rt; commits_within(rt.alloc(), calls, &[b'x'; 5000])?, done);
+    }
+    Ok(())
+}
+
+// Whether a recovery is done over a disk that stops after so many calls, and the file that is synced
+// then. Before it none is.
+fn recovered_within(alloc: Global, calls: u64, file: &[u8]) -> Result<(bool, Bytes), Fail> {
+    let mut disk = disk_of(alloc, b"", &[])?;
+    disk.write_at(0, file)?;
+    let fuse = FuseDisk::new(disk, calls);
+    let (done, fuse) = match Journal::recover(alloc, fuse) {
+        Ok(journal) => (true, journal.close()),
+        Err((fuse, _)) => (false, fuse),
+    };
+    Ok((done, fuse.into_disk().image(Choice::Old)?))
+}
+
+// A sync, then the length, the magic, and a read at each of two gates.
+#[test]
+fn recovers_after_a_sync(rt: HostRuntime) -> Result<(), Fail> {
+    let stops: [(u64, bool, &[u8]); 4] = [
+        (0, false, b""),
+        (1, false, ABC),
+        (4, false, ABC),
+        (5, true, ABC),
+    ];
+    for (calls, wanted, file) in stops {
+        let (done, synced) = recovered_within(rt.alloc(), calls, ABC)?;
+        assert_eq!(rt; done, wanted, "{calls}");
+        assert_eq!(rt; synced.as_slice(), file, "{calls}");
     }
     Ok(())
 }

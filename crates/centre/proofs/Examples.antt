@@ -18,13 +18,14 @@ use Rattle.dataselect.specs.Query.{is_selected, is_asked}
 use Rattle.dataselect.specs.Segments.{segment_length}
 use Rattle.centre.specs.Answers.{IsBodyOf, RefusesInput, IsAnswer}
 use Rattle.centre.specs.Commands.{SelectWords, select, help, version, is_position, command_of}
-use Rattle.centre.specs.Memory.{bytes_left}
-use Rattle.centre.specs.Settled.{EndsAs, IsSettled, ComesWhere, IsWritten}
-use Rattle.centre.specs.Status.{status_of, text_of}
+use Rattle.centre.specs.Memory.{bytes_left, pieces_left, GivesPiece, IsListed, part_for, room_behind}
+use Rattle.centre.specs.OptionsLaw.{named_value, words_of_options}
+use Rattle.centre.specs.Settled.{EndsAs, IsSettled, ComesWhere, HasWritten}
+use Rattle.centre.specs.Status.{status_of, error_text_of}
 use Rattle.centre.specs.Streams.{Grew, Puts}
 use Rattle.centre.specs.Table.{World, Stream, Tells, IsSelected, IsRun}
 use Rattle.centre.specs.Transfer.{Had, WritesPart}
-use Rattle.centre.specs.Words.{AreOptions, IsSelectQuery, RefusesWords, time_words, option_words}
+use Rattle.centre.specs.Words.{AreSelectOptions, IsSelectQuery, RefusesSelectWords, time_words, option_words}
 use Rattle.centre.proofs.OneQuery.{all_read}
 use Rattle.centre.specs.declared.ending.Word.TheVariants.{Network as NetworkWord, Station as StationWord, Location as LocationWord, Channel as ChannelWord}
 use Rattle.centre.specs.declared.ending.Refusal.{Refusal}
@@ -46,6 +47,30 @@ out_of_order = refl
 -- three bytes of the second piece are gone
 left : bytes_left (codes "IU" ∷ codes "ANMO" ∷ codes "BHZ" ∷ []) 1 3 ≡ codes "OBHZ"
 left = refl
+
+-- the same in pieces, and two bytes more taken of the first
+left_in_pieces : pieces_left (codes "IU" ∷ codes "ANMO" ∷ [] ∷ codes "BHZ" ∷ []) 1 1 ≡ codes "NMO" ∷ codes "BHZ" ∷ []
+left_in_pieces = refl
+
+takes_two : GivesPiece (codes "NMO" ∷ codes "BHZ" ∷ []) (codes "O" ∷ codes "BHZ" ∷ []) 2 2
+takes_two = (refl, refl)
+
+takes_a_piece : GivesPiece (codes "NMO" ∷ codes "BHZ" ∷ []) (codes "BHZ" ∷ []) 3 512
+takes_a_piece = (refl, refl)
+
+-- the third call is one that fails, and the second isn't
+third : IsListed 3 (1 ∷ 3 ∷ [])
+third = refl
+
+second_call : IsListed 2 (1 ∷ 3 ∷ []) → ⊥
+second_call h = cc
+
+-- of seven bytes there is room for two, and then for none
+room_for_two : part_for (Some 2) 7 ≡ 2
+room_for_two = refl
+
+no_more_room : room_behind (Some 2) 2 ≡ Some 0
+no_more_room = refl
 
 grew : Grew (Some (codes "IU")) (Some (codes "IU ANMO")) (codes " ANMO")
 grew = refl
@@ -97,8 +122,12 @@ no_value = refl
 limit_of_0 : command_of (with_options (codes "--max-bytes" ∷ codes "0" ∷ [])) ≡ None
 limit_of_0 = refl
 
+-- the words of two options, each a name with its value
+words_of_two : words_of_options (named_value (codes "--max-bytes") (codes "511") ∷ named_value (codes "--minimum") (codes "-1") ∷ []) ≡ codes "--max-bytes" ∷ codes "511" ∷ codes "--minimum" ∷ codes "-1" ∷ []
+words_of_two = refl
+
 -- the query of some words
-any_options : (w : SelectWords) → w.quality ≡ codes "B" → w.minimum ≡ codes "0" → w.longest ≡ codes "false" → AreOptions w None 0 false
+any_options : (w : SelectWords) → w.quality ≡ codes "B" → w.minimum ≡ codes "0" → w.longest ≡ codes "false" → AreSelectOptions w None 0 false
 any_options w quality minimum longest = record {
   quality_is = rw quality refl;
   minimum_is = rw minimum (record {
@@ -160,7 +189,7 @@ asked = record {
   nodata = refl;
 }
 
-read_fault : text_of ReadFault ≡ codes "centre: read fault\n"
+read_fault : error_text_of ReadFault ≡ codes "centre: read fault\n"
 read_fault = refl
 
 -- a put of two of seven bytes, and what is written where the next one fails
@@ -215,7 +244,7 @@ asked_all = record {
 }
 
 -- the first word that can't be read, and times in the wrong order
-bad_station : RefusesWords (record six_words { station = codes "A-N" }) (Value StationWord)
+bad_station : RefusesSelectWords (record six_words { station = codes "A-N" }) (Value StationWord)
 bad_station = record {
   before = NetworkWord ∷ [];
   after = LocationWord ∷ ChannelWord ∷ time_words ++ option_words;
@@ -226,7 +255,7 @@ bad_station = record {
       (omega arith, record { before = []; here = codes "A-N"; after = []; split = refl; values = []; clean = refl; refused = refl });
 }
 
-backwards : RefusesWords (record six_words { start = codes "2025-01-01" }) Order
+backwards : RefusesSelectWords (record six_words { start = codes "2025-01-01" }) Order
 backwards = record {
   all = all_read (record six_words { start = codes "2025-01-01" }) broadband new_year_2025 day None 0 false
       (record {
@@ -262,7 +291,7 @@ after = record { source = record { bytes = Some []; faults = 0 }; sink = record 
 selected : IsSelected words before after
 selected = record { input = anmo_image; body = anmo_image; had = refl; answer = answer; end = refl; output = refl }
 
-written : IsWritten (Some (select words)) before after
+written : HasWritten (Some (select words)) before after
 written = record { input = anmo_image; body = anmo_image; had = refl; answer = answer; output = refl }
 
 abbrev silent : Stream

@@ -6,7 +6,7 @@ use Rattle.mseed_header.specs.declared.row.Row.{Row}
 use Rattle.mseed_header.specs.Records.{AreRecords}
 use Rattle.mseed_header.proofs.Rows.{one_batch, one_first_bad, no_batch}
 use Rattle.dataselect.specs.declared.query.DataQuery.{DataQuery}
-use Rattle.centre.specs.declared.TheConstants.{MAX_INPUT}
+use Rattle.centre.specs.Limits.{most_input}
 use Rattle.centre.specs.declared.ending.Refusal.{Refusal}
 use Rattle.centre.specs.declared.ending.Refusal.TheVariants.{UnknownCommand, Value, Order, Record, NoData, TooLarge, InputTooLong}
 use Rattle.centre.specs.Answers.{IsBodyOf, HasBadRecord, RefusesInput, IsSelectAnswer, IsAnswer, places_for, body_for, epoch}
@@ -45,7 +45,7 @@ Gives query limit input (Err refusal) = RefusesInput query limit input refusal
 
 -- it comes in one of three ways: the input is too long, or a record is refused, or its rows decide
 record IsWhole (query : DataQuery) (limit : ℕ) (input : List ℕ) (answer : Result (List ℕ) Refusal) : Type 0 where
-  within : length input ≤ MAX_INPUT
+  within : length input ≤ most_input
   rows : List Row
   records : AreRecords input 0 epoch rows
   answer_is : answer ≡ by_places limit (places_for query rows) (body_for query rows)
@@ -57,7 +57,7 @@ record IsBad (input : List ℕ) (answer : Result (List ℕ) Refusal) : Type 0 wh
   answer_is : answer ≡ Err (Record at fault)
 
 record IsLong (input : List ℕ) (answer : Result (List ℕ) Refusal) : Type 0 where
-  long : MAX_INPUT < length input
+  long : most_input < length input
   answer_is : answer ≡ Err InputTooLong
 
 data Found (query : DataQuery) (limit : ℕ) (input : List ℕ) (answer : Result (List ℕ) Refusal) : Type 0 where

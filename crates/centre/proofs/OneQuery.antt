@@ -15,12 +15,12 @@ use Rattle.centre.specs.declared.ending.Refusal.TheVariants.{UnknownCommand, Val
 use Rattle.centre.specs.Commands.{SelectWords}
 use Rattle.query_words.specs.Values.{quality_of, flag_of}
 use Rattle.query_words.proofs.Minimums.{one_minimum}
-use Rattle.centre.specs.Words.{CanRead, CanReadAll, time_words, option_words, tested_words, IsNamed, IsWindow, AreOptions, IsSelectQuery, IsBackwards, RefusesWords}
+use Rattle.centre.specs.Words.{CanReadWord, CanReadWords, time_words, option_words, tested_words, IsNamed, IsSelectWindow, AreSelectOptions, IsSelectQuery, HasTimesTurned, RefusesSelectWords}
 
 one_time : (text : List ℕ) (a b : Moment) → IsMoment text a.micros → IsMoment text b.micros → a ≡ b
 one_time text a b h k = let e = one_moment text a.micros b.micros h k in λ i. record { micros = e i }
 
-one_selection : (w : SelectWords) (s t : Selection) → IsNamed w s → IsWindow w s → IsNamed w t → IsWindow w t → s ≡ t
+one_selection : (w : SelectWords) (s t : Selection) → IsNamed w s → IsSelectWindow w s → IsNamed w t → IsSelectWindow w t → s ≡ t
 one_selection w s t h p k q =
     let network = one_list Network w.network s.network t.network h.network_is k.network_is in
     let station = one_list Station w.station s.station t.station h.station_is k.station_is in
@@ -45,25 +45,25 @@ one_query w q r h k =
 
 -- every word can be read where there are its values
 pub all_read : (w : SelectWords) (s : Selection) (from to : Moment) (quality : Option Quality) (minimum : ℕ) (longest : Bool) → IsNamed w s → IsMoment w.start from.micros → IsMoment w.end to.micros
-    → AreOptions w quality minimum longest → CanReadAll w tested_words
+    → AreSelectOptions w quality minimum longest → CanReadWords w tested_words
 all_read w s from to quality minimum longest h from_is to_is o =
-    let options : CanReadAll w option_words = ((quality, o.quality_is), ((minimum, o.minimum_is), ((longest, o.longest_is), tt))) in
-    let times : CanReadAll w (time_words ++ option_words) = ((from.micros, from_is), ((to.micros, to_is), options)) in
+    let options : CanReadWords w option_words = ((quality, o.quality_is), ((minimum, o.minimum_is), ((longest, o.longest_is), tt))) in
+    let times : CanReadWords w (time_words ++ option_words) = ((from.micros, from_is), ((to.micros, to_is), options)) in
     ((s.network, h.network_is), ((s.station, h.station_is), ((s.location, h.location_is), ((s.channel, h.channel_is), times))))
 
-query_reads : (w : SelectWords) (q : DataQuery) → IsSelectQuery w q → CanReadAll w tested_words
+query_reads : (w : SelectWords) (q : DataQuery) → IsSelectQuery w q → CanReadWords w tested_words
 query_reads w q h =
     all_read w h.selection h.window.from h.window.to q.quality q.minimum q.longest h.named h.window.from_is h.window.to_is h.options
 
-not_backwards : (w : SelectWords) (q : DataQuery) → IsSelectQuery w q → IsBackwards w → ⊥
+not_backwards : (w : SelectWords) (q : DataQuery) → IsSelectQuery w q → HasTimesTurned w → ⊥
 not_backwards w q h k =
     let from : h.window.from.micros ≡ k.from = one_moment w.start h.window.from.micros k.from h.window.from_is k.from_is in
     let to : h.window.to.micros ≡ k.to = one_moment w.end h.window.to.micros k.to h.window.to_is k.to_is in
     omega (arith, ints, from, to, h.window.order, k.order)
 
 -- words that spell a query aren't refused
-pub no_refusal : (w : SelectWords) (q : DataQuery) (r : Refusal) → IsSelectQuery w q → RefusesWords w r → ⊥
-no_refusal w q (Value word) h k = none_without (CanRead w) tested_words word (query_reads w q h) k
+pub no_refusal : (w : SelectWords) (q : DataQuery) (r : Refusal) → IsSelectQuery w q → RefusesSelectWords w r → ⊥
+no_refusal w q (Value word) h k = none_without (CanReadWord w) tested_words word (query_reads w q h) k
 no_refusal w q Order h k = not_backwards w q h k
 no_refusal w q UnknownCommand h k = k
 no_refusal w q (Record at fault) h k = k
@@ -71,10 +71,10 @@ no_refusal w q NoData h k = k
 no_refusal w q (TooLarge bytes limit) h k = k
 no_refusal w q InputTooLong h k = k
 
-pub one_refusal : (w : SelectWords) (r s : Refusal) → RefusesWords w r → RefusesWords w s → r ≡ s
-one_refusal w (Value a) (Value b) h k = ap Value (one_without (CanRead w) tested_words a b h k)
-one_refusal w (Value a) Order h k = absurd (none_without (CanRead w) tested_words a k.all h)
-one_refusal w Order (Value b) h k = absurd (none_without (CanRead w) tested_words b h.all k)
+pub one_refusal : (w : SelectWords) (r s : Refusal) → RefusesSelectWords w r → RefusesSelectWords w s → r ≡ s
+one_refusal w (Value a) (Value b) h k = ap Value (one_without (CanReadWord w) tested_words a b h k)
+one_refusal w (Value a) Order h k = absurd (none_without (CanReadWord w) tested_words a k.all h)
+one_refusal w Order (Value b) h k = absurd (none_without (CanReadWord w) tested_words b h.all k)
 one_refusal w Order Order h k = refl
 one_refusal w r UnknownCommand h k = absurd k
 one_refusal w r (Record at fault) h k = absurd k

@@ -10,23 +10,23 @@ use Rattle.exact_time.specs.Causes.{Rose}
 use Rattle.dataselect.specs.Rows.{held_rows}
 use Rattle.dataselect.proofs.Fewer.{only_asked}
 use Rattle.dataselect.specs.DataBody.{answer_of, body_or_empty, images_at, RefusesAs}
-use Rattle.centre.specs.declared.TheConstants.{MAX_INPUT}
+use Rattle.centre.specs.Limits.{most_input}
 use Rattle.centre.specs.declared.ending.Refusal.TheVariants.{UnknownCommand, Value, Order, Record, NoData, TooLarge, InputTooLong}
 use Rattle.centre.specs.declared.ending.Stop.{Stop}
 use Rattle.centre.specs.declared.ending.Stop.TheVariants.{Refused, ReadFault, WriteFault, OutOfMemory}
 use Rattle.centre.specs.Answers.{IsBodyOf, RefusesInput, places_for, all_seen, stop_for_data}
 use Rattle.centre.specs.Streams.{Grew}
 use Rattle.centre.specs.Commands.{SelectWords, Command, select, help, version}
-use Rattle.centre.specs.Table.{World, Stream, Tells, SelectRow, ShowRow, UnknownRow, Row as TableRow, ToldFor}
+use Rattle.centre.specs.Table.{World, Stream, Tells, SelectRow, ShowRow, UnknownRow, IsEnding, ToldFor}
 use Rattle.centre.specs.declared.help.TheConstants.{HELP, VERSION}
 use Rattle.centre.specs.declared.ending.Refusal.{Refusal}
 use Rattle.centre.specs.Transfer.{Had, WritesPart}
 use Rattle.centre.specs.Intake.{AreAsked, HasTaken, IntakeStops}
 use Rattle.centre.proofs.Inputs.{had_all}
-use Rattle.centre.specs.Words.{IsSelectQuery, RefusesWords, StopsWith}
+use Rattle.centre.specs.Words.{IsSelectQuery, RefusesSelectWords, StopsWith}
 
 -- the words are refused
-pub words_row : (w : SelectWords) (world : World) (stop : Stop) → StopsWith (RefusesWords w) stop → SelectRow w world world (Err stop)
+pub words_row : (w : SelectWords) (world : World) (stop : Stop) → StopsWith (RefusesSelectWords w) stop → SelectRow w world world (Err stop)
 words_row w world (Refused refusal) why = inl (record { why = why; same = refl })
 words_row w world OutOfMemory why = refl
 words_row w world ReadFault why = absurd why
@@ -97,7 +97,7 @@ told_unknown before after ReadFault told row e = absurd row
 told_unknown before after WriteFault told row e = absurd row
 told_unknown before after OutOfMemory told row e = absurd row
 
-pub told_row : (command : Option Command) (before after : World) (stop told : Stop) → TableRow command before after (Err stop) → ToldFor stop told → TableRow command before after (Err told)
+pub told_row : (command : Option Command) (before after : World) (stop told : Stop) → IsEnding command before after (Err stop) → ToldFor stop told → IsEnding command before after (Err told)
 told_row None before after stop told row e = told_unknown before after stop told row e
 told_row (Some help) before after stop told row e = told_show HELP.now before after stop told row e
 told_row (Some version) before after stop told row e = told_show VERSION.now before after stop told row e
@@ -147,13 +147,13 @@ too_many max n rows (p ∷ ps) e =
 asked_answer : (query : DataQuery) (limit : ℕ) (input : List ℕ) (held : List Row) (asked : AreAsked query input held) → answer_of all_seen query limit (held_rows asked.rows) ≡ answer_of all_seen query limit held
 asked_answer query limit input held asked = only_asked all_seen query limit asked.rows ∙ ap (answer_of all_seen query limit) (sym asked.held_are)
 
-pub body_row : (query : DataQuery) (limit : ℕ) (input body : List ℕ) (held : List Row) → length input ≤ MAX_INPUT → AreAsked query input held → answer_of all_seen query limit held ≡ Ok body → IsBodyOf query limit input body
+pub body_row : (query : DataQuery) (limit : ℕ) (input body : List ℕ) (held : List Row) → length input ≤ most_input → AreAsked query input held → answer_of all_seen query limit held ≡ Ok body → IsBodyOf query limit input body
 body_row query limit input body held within asked e =
     let rows = asked.rows in
     let h = body_is limit (held_rows rows) (places_for query rows) body (asked_answer query limit input held asked ∙ e) in
     record { within = within; rows = rows; records = asked.records; some = h.0; body_is = h.1; fits = h.2 }
 
-pub data_row : (query : DataQuery) (limit : ℕ) (input : List ℕ) (held : List Row) (refusal : DataRefusal) → length input ≤ MAX_INPUT → AreAsked query input held
+pub data_row : (query : DataQuery) (limit : ℕ) (input : List ℕ) (held : List Row) (refusal : DataRefusal) → length input ≤ most_input → AreAsked query input held
     → RefusesAs (answer_of all_seen query limit held) refusal → StopsWith (RefusesInput query limit input) (stop_for_data limit refusal)
 data_row query limit input held Empty within asked e =
     let rows = asked.rows in

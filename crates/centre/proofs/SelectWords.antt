@@ -12,7 +12,7 @@ use Rattle.centre.specs.declared.ending.Refusal.TheVariants.{Value}
 use Rattle.centre.specs.declared.ending.Stop.{Stop}
 use Rattle.centre.specs.declared.ending.Stop.TheVariants.{Refused, ReadFault, WriteFault, OutOfMemory as NoMemory}
 use Rattle.centre.specs.Commands.{SelectWords}
-use Rattle.centre.specs.Words.{CanRead, CanReadAll, IsList, RefusesWords, StopsWith, tested_words, stop_for}
+use Rattle.centre.specs.Words.{CanReadWord, CanReadWords, IsList, RefusesSelectWords, StopsWith, tested_words, stop_for}
 
 -- a fault of a code word is no pattern list
 pub refused_list : (part : Part) (text : List ℕ) (fault : GlobFault) (word : Word) → RefusesList part text fault
@@ -23,21 +23,21 @@ refused_list part text Length word h = (refl, λ list. no_list part text list.0 
 refused_list part text OutOfMemory word h = tt
 
 -- the first word that can't be read
-pub first_word : (w : SelectWords) (word : Word) (before after : List Word) → tested_words ≡ before ++ word ∷ after → AllByRecursion (CanRead w) before → (stop : Stop)
-    → StopsWith (λ refusal. (refusal ≡ Value word) × (CanRead w word → ⊥)) stop → StopsWith (RefusesWords w) stop
+pub first_word : (w : SelectWords) (word : Word) (before after : List Word) → tested_words ≡ before ++ word ∷ after → AllByRecursion (CanReadWord w) before → (stop : Stop)
+    → StopsWith (λ refusal. (refusal ≡ Value word) × (CanReadWord w word → ⊥)) stop → StopsWith (RefusesSelectWords w) stop
 first_word w word before after split all (Refused refusal) h =
-    subst (λ (r : Refusal). RefusesWords w r) (sym h.0) (record { before = before; after = after; split = split; all = all; lacks = h.1 })
+    subst (λ (r : Refusal). RefusesSelectWords w r) (sym h.0) (record { before = before; after = after; split = split; all = all; lacks = h.1 })
 first_word w word before after split all NoMemory h = tt
 first_word w word before after split all ReadFault h = absurd h
 first_word w word before after split all WriteFault h = absurd h
 
 -- the same of a refusal
-pub first_refused : (w : SelectWords) (word : Word) (before after : List Word) (refusal : Refusal) → tested_words ≡ before ++ word ∷ after → CanReadAll w before
-    → (refusal ≡ Value word) × (CanRead w word → ⊥) → RefusesWords w refusal
+pub first_refused : (w : SelectWords) (word : Word) (before after : List Word) (refusal : Refusal) → tested_words ≡ before ++ word ∷ after → CanReadWords w before
+    → (refusal ≡ Value word) × (CanReadWord w word → ⊥) → RefusesSelectWords w refusal
 first_refused w word before after refusal split all h =
-    subst (λ (r : Refusal). RefusesWords w r) (sym h.0) (record { before = before; after = after; split = split; all = all; lacks = h.1 })
+    subst (λ (r : Refusal). RefusesSelectWords w r) (sym h.0) (record { before = before; after = after; split = split; all = all; lacks = h.1 })
 
 -- words that can be read, and one more
-pub one_more : (w : SelectWords) (words : List Word) (word : Word) → CanReadAll w words → CanRead w word → CanReadAll w (words ++ word ∷ [])
+pub one_more : (w : SelectWords) (words : List Word) (word : Word) → CanReadWords w words → CanReadWord w word → CanReadWords w (words ++ word ∷ [])
 one_more w [] word all can = (can, tt)
 one_more w (x ∷ words) word all can = (all.0, one_more w words word all.1 can)

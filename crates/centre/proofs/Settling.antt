@@ -8,22 +8,22 @@ use Rattle.centre.specs.declared.ending.Stop.{Stop}
 use Rattle.centre.specs.declared.ending.Stop.TheVariants.{Refused, ReadFault, WriteFault, OutOfMemory}
 use Rattle.centre.specs.Answers.{IsAnswer, IsSelectAnswer, RefusesInput}
 use Rattle.centre.specs.Commands.{SelectWords, Command, select, help, version}
-use Rattle.centre.specs.Settled.{IsFree, Told, ComesWhere, IsComplete, IsCutShort, IsSettled, IsWritten, IsRefused, IsTooLarge, status_of_answer, text_of_answer}
+use Rattle.centre.specs.Settled.{IsFree, Told, ComesWhere, IsComplete, IsCutShort, IsSettled, HasWritten, IsRefused, IsTooLarge, status_of_answer, text_of_answer}
 use Rattle.centre.specs.Status.{status_of_refusal, status_of_run, text_of_run}
 use Rattle.centre.specs.Streams.{Grew}
-use Rattle.centre.specs.Table.{World, Stream, Tells, UnknownRow, ShowRow, IsShowStopped, SelectRow, Row, IsRun}
+use Rattle.centre.specs.Table.{World, Stream, Tells, UnknownRow, ShowRow, IsShowStopped, SelectRow, IsEnding, IsRun}
 use Rattle.centre.specs.Transfer.{Had}
 use Rattle.centre.proofs.OneAnswer.{one_answer}
 
 -- a run that ended otherwise than by a fault or for want of memory ended as an answer says
-record IsEnding (command : Option Command) (input : List ℕ) (ending : Result (Unit {0}) Stop) : Type 0 where
+record EndsByAnswer (command : Option Command) (input : List ℕ) (ending : Result (Unit {0}) Stop) : Type 0 where
   answer : Result (List ℕ) Refusal
   is : IsAnswer command input answer
   status_is : status_of_run ending ≡ status_of_answer answer
   text_is : text_of_run ending ≡ text_of_answer answer
 
 abbrev Ended : Option Command → List ℕ → Result (Unit {0}) Stop → Type 0
-Ended command input ending = IsFree (status_of_run ending) ⊎ IsEnding command input ending
+Ended command input ending = IsFree (status_of_run ending) ⊎ EndsByAnswer command input ending
 
 had_that : (left : Option (List ℕ)) (input had : List ℕ) → left ≡ Some input → Had left had → input ≡ had
 had_that left input had e h = subst (λ (o : Option (List ℕ)). Had o had) e h
@@ -62,7 +62,7 @@ select_ended w input before after (Err ReadFault) e row = inl (inl refl)
 select_ended w input before after (Err WriteFault) e row = inl (inr (inl refl))
 select_ended w input before after (Err OutOfMemory) e row = inl (inr (inr refl))
 
-ended : (command : Option Command) (input : List ℕ) (before after : World) (ending : Result (Unit {0}) Stop) → before.source.bytes ≡ Some input → Row command before after ending → Ended command input ending
+ended : (command : Option Command) (input : List ℕ) (before after : World) (ending : Result (Unit {0}) Stop) → before.source.bytes ≡ Some input → IsEnding command before after ending → Ended command input ending
 ended None input before after ending e row = unknown_ended input before after ending row
 ended (Some help) input before after ending e row = show_ended (Some help) input HELP.now before after ending refl row
 ended (Some version) input before after ending e row = show_ended (Some version) input VERSION.now before after ending refl row
@@ -179,13 +179,13 @@ some_input : (left : Option (List ℕ)) → (input : List ℕ) × Had left input
 some_input None = ([], tt)
 some_input (Some xs) = (xs, refl)
 
-shown : (command : Option Command) (text : List ℕ) (before after : World) → ((input : List ℕ) → IsAnswer command input (Ok text)) → Grew before.sink.bytes after.sink.bytes text → IsWritten command before after
+shown : (command : Option Command) (text : List ℕ) (before after : World) → ((input : List ℕ) → IsAnswer command input (Ok text)) → Grew before.sink.bytes after.sink.bytes text → HasWritten command before after
 shown command text before after is output =
     let some = some_input before.source.bytes in
     record { input = some.0; body = text; had = some.1; answer = is some.0; output = output }
 
 -- with status 0 the sink got the answer
-pub written : (command : Option Command) (before after : World) (done : Unit {0}) → Row command before after (Ok done) → IsWritten command before after
+pub written : (command : Option Command) (before after : World) (done : Unit {0}) → IsEnding command before after (Ok done) → HasWritten command before after
 written None before after done row = absurd row
 written (Some help) before after done row = shown (Some help) HELP.now before after (λ input. refl) row.output
 written (Some version) before after done row = shown (Some version) VERSION.now before after (λ input. refl) row.output
@@ -206,7 +206,7 @@ no_fault NoData = (λ e. omega (arith, e), λ e. omega (arith, e))
 no_fault (TooLarge bytes limit) = (λ e. omega (arith, e), λ e. omega (arith, e))
 no_fault InputTooLong = (λ e. omega (arith, e), λ e. omega (arith, e))
 
-cut_row : (command : Option Command) (before after : World) (ending : Result (Unit {0}) Stop) → Row command before after ending → status_of_run ending ≡ 6 → IsCutShort command before after
+cut_row : (command : Option Command) (before after : World) (ending : Result (Unit {0}) Stop) → IsEnding command before after ending → status_of_run ending ≡ 6 → IsCutShort command before after
 cut_row command before after (Ok done) row e = absurd (omega (arith, e))
 cut_row command before after (Err (Refused refusal)) row e = absurd ((no_fault refusal).1 e)
 cut_row command before after (Err ReadFault) row e = absurd (omega (arith, e))
@@ -219,7 +219,7 @@ cut_row (Some (select w)) before after (Err WriteFault) row e = record { input =
 pub cut_short : (command : Option Command) (before after : World) (old new : Stream) (status : ℕ) → IsRun command before after old new status → status ≡ 6 → IsCutShort command before after
 cut_short command before after old new status run six = cut_row command before after run.ending run.row (sym run.status_is ∙ six)
 
-rose_row : (command : Option Command) (before after : World) (ending : Result (Unit {0}) Stop) → Row command before after ending → status_of_run ending ≡ 5 → Rose before.source.faults after.source.faults
+rose_row : (command : Option Command) (before after : World) (ending : Result (Unit {0}) Stop) → IsEnding command before after ending → status_of_run ending ≡ 5 → Rose before.source.faults after.source.faults
 rose_row command before after (Ok done) row e = absurd (omega (arith, e))
 rose_row command before after (Err (Refused refusal)) row e = absurd ((no_fault refusal).0 e)
 rose_row command before after (Err WriteFault) row e = absurd (omega (arith, e))
@@ -245,7 +245,7 @@ kept_unknown before after ReadFault row = absurd row
 kept_unknown before after WriteFault row = absurd row
 kept_unknown before after OutOfMemory row = absurd row
 
-kept_row : (command : Option Command) (before after : World) (ending : Result (Unit {0}) Stop) → Row command before after ending → (status_of_run ending ≡ 0 → ⊥) → (status_of_run ending ≡ 6 → ⊥) → after.sink ≡ before.sink
+kept_row : (command : Option Command) (before after : World) (ending : Result (Unit {0}) Stop) → IsEnding command before after ending → (status_of_run ending ≡ 0 → ⊥) → (status_of_run ending ≡ 6 → ⊥) → after.sink ≡ before.sink
 kept_row command before after (Ok done) row done_not cut_not = absurd (done_not refl)
 kept_row command before after (Err WriteFault) row done_not cut_not = absurd (cut_not refl)
 kept_row None before after (Err stop) row done_not cut_not = kept_unknown before after stop row

@@ -19,7 +19,7 @@ use Rattle.dataselect.specs.Chosen.{asked_rows}
 use Rattle.dataselect.specs.Query.{is_asked}
 use Rattle.dataselect.specs.Rows.{held_rows, with_row}
 use Rattle.dataselect.proofs.Held.{held_more, length_with}
-use Rattle.centre.specs.declared.TheConstants.{MAX_INPUT}
+use Rattle.centre.specs.Limits.{most_input}
 use Rattle.centre.specs.declared.ending.Refusal.TheVariants.{UnknownCommand, Value, Order, Record, NoData, TooLarge, InputTooLong}
 use Rattle.centre.specs.declared.ending.Stop.{Stop}
 use Rattle.centre.specs.declared.ending.Stop.TheVariants.{Refused, ReadFault, WriteFault, OutOfMemory}
@@ -129,7 +129,7 @@ pub record IsTaken (query : DataQuery) (left after : Option (List ℕ)) (total :
   pub input : List ℕ
   pub taken : Consumes left after input
   pub total_is : total ≡ length input
-  pub within : total ≤ MAX_INPUT
+  pub within : total ≤ most_input
   pub shelved : IsShelved query input rest place held
   pub cut : IsCutTo rest fault
 
@@ -145,7 +145,7 @@ taken_begins query left held none = record {
 
 -- a piece more
 pub taken_more : (query : DataQuery) (left middle after : Option (List ℕ)) (total count : ℕ) (rest piece new : List ℕ) (place next : ℕ) (fault why : Option RecordFault) (held more : List Row)
-    → Consumes middle after piece → count ≡ length piece → total + count ≤ MAX_INPUT → Passes query (rest ++ piece) place held new next more → IsCutTo new why
+    → Consumes middle after piece → count ≡ length piece → total + count ≤ most_input → Passes query (rest ++ piece) place held new next more → IsCutTo new why
     → IsTaken query left middle total rest place fault held → IsTaken query left after (total + count) new next why more
 taken_more query left middle after total count rest piece new place next fault why held more bytes size fits passes cut far = record {
   input = far.input ++ piece;
@@ -200,9 +200,9 @@ taken_none query left middle after total rest piece place fault held bytes none 
 }
 
 -- a piece more is past the limit
-pub taken_too_much : (query : DataQuery) (left middle after : Option (List ℕ)) (total : ℕ) (rest piece : List ℕ) (place : ℕ) (fault : Option RecordFault) (held : List Row) → Consumes middle after piece → MAX_INPUT < total + length piece
-    → IsTaken query left middle total rest place fault held → HadMore left MAX_INPUT
+pub taken_too_much : (query : DataQuery) (left middle after : Option (List ℕ)) (total : ℕ) (rest piece : List ℕ) (place : ℕ) (fault : Option RecordFault) (held : List Row) → Consumes middle after piece → most_input < total + length piece
+    → IsTaken query left middle total rest place fault held → HadMore left most_input
 taken_too_much query left middle after total rest piece place fault held bytes long far =
     let all : List ℕ = far.input ++ piece in
-    let size : MAX_INPUT < length all = omega (arith, far.total_is, long, length-append far.input piece) in
-    had_more left after MAX_INPUT all (Consumes-then left middle after far.input piece far.taken bytes) size
+    let size : most_input < length all = omega (arith, far.total_is, long, length-append far.input piece) in
+    had_more left after most_input all (Consumes-then left middle after far.input piece far.taken bytes) size

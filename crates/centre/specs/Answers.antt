@@ -8,10 +8,10 @@ use Rattle.dataselect.specs.declared.query.DataQuery.{DataQuery}
 use Rattle.dataselect.specs.Rows.{held_rows}
 use Rattle.dataselect.specs.DataBody.{data_body}
 use Rattle.dataselect.specs.Picked.{picked_places}
-use Rattle.centre.specs.declared.TheConstants.{MAX_INPUT}
+use Rattle.centre.specs.Limits.{most_input}
 use Rattle.centre.specs.declared.help.TheConstants.{HELP, VERSION}
 use Rattle.centre.specs.Commands.{SelectWords, Command, select, help, version}
-use Rattle.centre.specs.Words.{IsSelectQuery, RefusesWords}
+use Rattle.centre.specs.Words.{IsSelectQuery, RefusesSelectWords}
 use Rattle.dataselect.specs.declared.answers.DataRefusal.{DataRefusal}
 use Rattle.dataselect.specs.declared.answers.DataRefusal.TheVariants.{Empty, TooLarge as TooMuch, OutOfMemory as NoMemory}
 use Rattle.centre.specs.declared.ending.Stop.{Stop}
@@ -37,7 +37,7 @@ body_for query rows = data_body all_seen query (held_rows rows)
 -- The input is records end to end, and this is the data body of its rows, within the limit. The rows have
 -- entry 0 and the moment 0, and some is picked.
 pub record IsBodyOf (query : DataQuery) (limit : ℕ) (input body : List ℕ) : Type 0 where
-  pub within : length input ≤ MAX_INPUT
+  pub within : length input ≤ most_input
   pub rows : List Row
   pub records : AreRecords input 0 epoch rows
   pub some : places_for query rows ≢ []
@@ -46,14 +46,14 @@ pub record IsBodyOf (query : DataQuery) (limit : ℕ) (input body : List ℕ) : 
 
 -- the input is records end to end, and none is picked
 pub record HasNoData (query : DataQuery) (input : List ℕ) : Type 0 where
-  pub within : length input ≤ MAX_INPUT
+  pub within : length input ≤ most_input
   pub rows : List Row
   pub records : AreRecords input 0 epoch rows
   pub none : places_for query rows ≡ []
 
 -- the input is records end to end, and the picked ones have so many bytes, more than the limit
 pub record HasTooMuch (query : DataQuery) (limit : ℕ) (input : List ℕ) (bytes told : ℕ) : Type 0 where
-  pub within : length input ≤ MAX_INPUT
+  pub within : length input ≤ most_input
   pub rows : List Row
   pub records : AreRecords input 0 epoch rows
   pub some : places_for query rows ≢ []
@@ -63,7 +63,7 @@ pub record HasTooMuch (query : DataQuery) (limit : ℕ) (input : List ℕ) (byte
 
 -- the input isn't too long, and the record at this offset is the first that is refused
 pub record HasBadRecord (input : List ℕ) (at : ℕ) (fault : RecordFault) : Type 0 where
-  pub within : length input ≤ MAX_INPUT
+  pub within : length input ≤ most_input
   pub first : IsFirstBad input at fault
 
 -- how a refusal of an answer stops a run
@@ -77,14 +77,14 @@ abbrev pub RefusesInput : DataQuery → ℕ → List ℕ → Refusal → Type 0
 RefusesInput query limit input (Record at fault) = HasBadRecord input at fault
 RefusesInput query limit input NoData = HasNoData query input
 RefusesInput query limit input (TooLarge bytes told) = HasTooMuch query limit input bytes told
-RefusesInput query limit input InputTooLong = MAX_INPUT < length input
+RefusesInput query limit input InputTooLong = most_input < length input
 RefusesInput query limit input _ = ⊥
 
 -- the words of `select` and the input give this body, or are refused: the words before the input
 abbrev pub IsSelectAnswer : SelectWords → List ℕ → Result (List ℕ) Refusal → Type 0
 IsSelectAnswer w input (Ok body) = (query : DataQuery) × IsSelectQuery w query × IsBodyOf query w.limit input body
 IsSelectAnswer w input (Err refusal) =
-    RefusesWords w refusal ⊎ ((query : DataQuery) × IsSelectQuery w query × RefusesInput query w.limit input refusal)
+    RefusesSelectWords w refusal ⊎ ((query : DataQuery) × IsSelectQuery w query × RefusesInput query w.limit input refusal)
 
 -- What the words and the input determine, by cases on the command: what is written, or why nothing is.
 abbrev pub IsAnswer : Option Command → List ℕ → Result (List ℕ) Refusal → Type 0

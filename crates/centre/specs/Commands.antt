@@ -5,7 +5,7 @@ use Rattle.std.specs.Option.{option_map, is_some}
 use Rattle.std.specs.Str.{bytes_eq}
 use Rattle.query_words.specs.Gets.{text_or}
 use Rattle.query_words.specs.Values.{whole_of}
-use Rattle.centre.specs.declared.TheConstants.{MAX_BYTES}
+use Rattle.centre.specs.Limits.{most_bytes}
 
 abbrev pub Text : Type 0
 Text = List ℕ
@@ -47,7 +47,8 @@ value_of name [] = None
 value_of name (word ∷ []) = None
 value_of name (word ∷ value ∷ words) = if bytes_eq word name then Some value else value_of name words
 
--- the words are options, each with its value, none of them given twice
+-- The words are options, each with its value, none of them given twice. A law says the same of names with
+-- values, in any order.
 abbrev pub are_options : List Text → Bool
 are_options [] = true
 are_options (word ∷ []) = false
@@ -55,11 +56,11 @@ are_options (name ∷ value ∷ words) = is_option name && not (is_some (value_o
 
 abbrev pub limit_within : Option ℕ → Option ℕ
 limit_within None = None
-limit_within (Some n) = if nat_le 1 n && nat_le n MAX_BYTES then Some n else None
+limit_within (Some n) = if nat_le 1 n && nat_le n most_bytes then Some n else None
 
 -- how many bytes an answer may have: a whole number from 1 to the greatest, which is the default
 abbrev pub limit_of : Option Text → Option ℕ
-limit_of None = Some MAX_BYTES
+limit_of None = Some most_bytes
 limit_of (Some text) = limit_within (whole_of text)
 
 -- what six positions and the options say, with a limit

@@ -13,7 +13,7 @@ use Rattle.dataselect.specs.declared.query.DataQuery.{DataQuery}
 use Rattle.dataselect.specs.Chosen.{asked_rows}
 use Rattle.dataselect.specs.Query.{is_asked}
 use Rattle.dataselect.specs.Rows.{held_rows, with_row}
-use Rattle.centre.specs.declared.TheConstants.{MAX_INPUT}
+use Rattle.centre.specs.Limits.{most_input}
 use Rattle.centre.specs.declared.ending.Refusal.TheVariants.{Record, InputTooLong}
 use Rattle.centre.specs.declared.ending.Stop.{Stop}
 use Rattle.centre.specs.declared.ending.Stop.TheVariants.{Refused, ReadFault, OutOfMemory}
@@ -61,7 +61,7 @@ pub record HasTaken (query : DataQuery) (left after : Option (List ℕ)) (held :
   pub input : List ℕ
   pub taken : Consumes left after input
   pub end : IsAtEnd after
-  pub within : length input ≤ MAX_INPUT
+  pub within : length input ≤ most_input
   pub asked : AreAsked query input held
 
 -- the source had an input whose record at this offset is the first that is refused
@@ -73,7 +73,7 @@ pub record HadBadRecord (left : Option (List ℕ)) (at : ℕ) (fault : RecordFau
 -- why an input wasn't taken; want of memory is free
 abbrev pub IntakeStops : Option (List ℕ) → ℕ → ℕ → Stop → Type 0
 IntakeStops left before now ReadFault = Rose before now
-IntakeStops left before now (Refused InputTooLong) = HadMore left MAX_INPUT
+IntakeStops left before now (Refused InputTooLong) = HadMore left most_input
 IntakeStops left before now (Refused (Record at fault)) = HadBadRecord left at fault
 IntakeStops left before now OutOfMemory = ⊤
 IntakeStops left before now _ = ⊥

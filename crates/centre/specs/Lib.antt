@@ -1,8 +1,10 @@
 pub mod Answers
 pub mod Arguments
 pub mod Commands
-pub mod Memory
 pub mod Intake
+pub mod Limits
+pub mod Memory
+pub mod OptionsLaw
 pub mod Settled
 pub mod Status
 pub mod Streams

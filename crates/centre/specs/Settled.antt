@@ -51,7 +51,7 @@ IsComplete command input before after old new status =
     → (answer : Result (List ℕ) Refusal) → IsAnswer command input answer → (status ≡ 70) ⊎ EndsAs answer old new status
 
 -- status 0: the sink got what the command answers to what the source had
-pub record IsWritten (command : Option Command) (before after : World) : Type 0 where
+pub record HasWritten (command : Option Command) (before after : World) : Type 0 where
   pub input : List ℕ
   pub body : List ℕ
   pub had : Had before.source.bytes input

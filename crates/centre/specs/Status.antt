@@ -61,12 +61,12 @@ text_of_refusal NoData = codes "centre: no data\n"
 text_of_refusal (TooLarge bytes limit) = codes "centre: " ++ decimal bytes ++ codes " bytes exceed " ++ decimal limit ++ codes "\n"
 text_of_refusal InputTooLong = codes "centre: input too long\n"
 
-abbrev pub text_of : Stop → List ℕ
-text_of (Refused refusal) = text_of_refusal refusal
-text_of ReadFault = codes "centre: read fault\n"
-text_of WriteFault = codes "centre: write fault\n"
-text_of OutOfMemory = codes "centre: out of memory\n"
+abbrev pub error_text_of : Stop → List ℕ
+error_text_of (Refused refusal) = text_of_refusal refusal
+error_text_of ReadFault = codes "centre: read fault\n"
+error_text_of WriteFault = codes "centre: write fault\n"
+error_text_of OutOfMemory = codes "centre: out of memory\n"
 
 abbrev pub text_of_run : Result (Unit {0}) Stop → List ℕ
 text_of_run (Ok done) = []
-text_of_run (Err stop) = text_of stop
+text_of_run (Err stop) = error_text_of stop

@@ -13,7 +13,7 @@ use Rattle.centre.specs.Commands.{SelectWords, Command, select, help, version}
 use Rattle.centre.specs.Status.{status_of_run, text_of_run}
 use Rattle.centre.specs.Streams.{Grew}
 use Rattle.centre.specs.Transfer.{Had, WritesPart}
-use Rattle.centre.specs.Words.{IsSelectQuery, RefusesWords}
+use Rattle.centre.specs.Words.{IsSelectQuery, RefusesSelectWords}
 
 -- what is known of a source or a sink at one moment: the bytes left or written, and its faults
 pub record Stream : Type 0 where
@@ -43,7 +43,7 @@ pub record IsSelected (w : SelectWords) (before after : World) : Type 0 where
 
 -- the words are refused: nothing is read, and nothing is written
 pub record IsRefusedByWords (w : SelectWords) (before after : World) (refusal : Refusal) : Type 0 where
-  pub why : RefusesWords w refusal
+  pub why : RefusesSelectWords w refusal
   pub same : after ≡ before
 
 -- the input is refused: nothing is written
@@ -103,11 +103,11 @@ UnknownRow before after (Err (Refused UnknownCommand)) = after ≡ before
 UnknownRow before after _ = ⊥
 
 -- The table, by cases on the command: how a run ends, why, and what it leaves.
-abbrev pub Row : Option Command → World → World → Result (Unit {0}) Stop → Type 0
-Row None before after ending = UnknownRow before after ending
-Row (Some help) before after ending = ShowRow HELP.now before after ending
-Row (Some version) before after ending = ShowRow VERSION.now before after ending
-Row (Some (select w)) before after ending = SelectRow w before after ending
+abbrev pub IsEnding : Option Command → World → World → Result (Unit {0}) Stop → Type 0
+IsEnding None before after ending = UnknownRow before after ending
+IsEnding (Some help) before after ending = ShowRow HELP.now before after ending
+IsEnding (Some version) before after ending = ShowRow VERSION.now before after ending
+IsEnding (Some (select w)) before after ending = SelectRow w before after ending
 
 -- What a stop is told as: itself, or want of memory where a text with numbers can't be made.
 abbrev pub ToldFor : Stop → Stop → Type 0
@@ -123,6 +123,6 @@ pub record Tells (old new : Stream) (text : List ℕ) : Type 0 where
 -- a run from one moment to another with this status, and what it writes on the errors
 pub record IsRun (command : Option Command) (before after : World) (old new : Stream) (status : ℕ) : Type 0 where
   pub ending : Result (Unit {0}) Stop
-  pub row : Row command before after ending
+  pub row : IsEnding command before after ending
   pub status_is : status ≡ status_of_run ending
   pub text : Tells old new (text_of_run ending)

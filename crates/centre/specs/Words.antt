@@ -30,7 +30,7 @@ pub record IsNamed (w : SelectWords) (s : Selection) : Type 0 where
   pub channel_is : IsPatternList Channel w.channel s.channel
 
 -- the window is from the moment of one word to that of another, which is not before it
-pub record IsWindow (w : SelectWords) (s : Selection) : Type 0 where
+pub record IsSelectWindow (w : SelectWords) (s : Selection) : Type 0 where
   pub from : Moment
   pub to : Moment
   pub start_is : s.start ≡ Some from
@@ -40,7 +40,7 @@ pub record IsWindow (w : SelectWords) (s : Selection) : Type 0 where
   pub order : from.micros ≤ℤ to.micros
 
 -- the quality, the least length of a segment, and whether the longest alone are asked for
-pub record AreOptions (w : SelectWords) (quality : Option Quality) (minimum : ℕ) (longest : Bool) : Type 0 where
+pub record AreSelectOptions (w : SelectWords) (quality : Option Quality) (minimum : ℕ) (longest : Bool) : Type 0 where
   pub quality_is : quality_of w.quality ≡ Some quality
   pub minimum_is : IsMinimum w.minimum minimum
   pub longest_is : flag_of w.longest ≡ Some longest
@@ -49,9 +49,9 @@ pub record AreOptions (w : SelectWords) (quality : Option Quality) (minimum : �
 pub record IsSelectQuery (w : SelectWords) (query : DataQuery) : Type 0 where
   pub selection : Selection
   pub named : IsNamed w selection
-  pub window : IsWindow w selection
+  pub window : IsSelectWindow w selection
   pub only : query.selections ≡ selection ∷ []
-  pub options : AreOptions w query.quality query.minimum query.longest
+  pub options : AreSelectOptions w query.quality query.minimum query.longest
   pub nodata : query.nodata ≡ Quiet
 
 -- a word spells a pattern list, a moment, or the value of an option
@@ -71,16 +71,16 @@ abbrev pub IsFlag : Text → Type 0
 IsFlag word = (flag : Bool) × (flag_of word ≡ Some flag)
 
 -- the word can be read
-abbrev pub CanRead : SelectWords → Word → Type 0
-CanRead w NetworkWord = IsList Network w.network
-CanRead w StationWord = IsList Station w.station
-CanRead w LocationWord = IsList Location w.location
-CanRead w ChannelWord = IsList Channel w.channel
-CanRead w StartWord = IsTime w.start
-CanRead w EndWord = IsTime w.end
-CanRead w QualityWord = IsQuality w.quality
-CanRead w MinimumWord = IsLength w.minimum
-CanRead w LongestWord = IsFlag w.longest
+abbrev pub CanReadWord : SelectWords → Word → Type 0
+CanReadWord w NetworkWord = IsList Network w.network
+CanReadWord w StationWord = IsList Station w.station
+CanReadWord w LocationWord = IsList Location w.location
+CanReadWord w ChannelWord = IsList Channel w.channel
+CanReadWord w StartWord = IsTime w.start
+CanReadWord w EndWord = IsTime w.end
+CanReadWord w QualityWord = IsQuality w.quality
+CanReadWord w MinimumWord = IsLength w.minimum
+CanReadWord w LongestWord = IsFlag w.longest
 
 -- the words in the order in which they are tested
 abbrev pub code_words : List Word
@@ -96,12 +96,12 @@ abbrev pub tested_words : List Word
 tested_words = code_words ++ time_words ++ option_words
 
 -- each of these words can be read
-abbrev pub CanReadAll : SelectWords → List Word → Type 0
-CanReadAll w words = AllByRecursion (CanRead w) words
+abbrev pub CanReadWords : SelectWords → List Word → Type 0
+CanReadWords w words = AllByRecursion (CanReadWord w) words
 
 -- every word can be read, and the start is after the end
-pub record IsBackwards (w : SelectWords) : Type 0 where
-  pub all : CanReadAll w tested_words
+pub record HasTimesTurned (w : SelectWords) : Type 0 where
+  pub all : CanReadWords w tested_words
   pub from : ℤ
   pub to : ℤ
   pub from_is : IsMoment w.start from
@@ -109,10 +109,10 @@ pub record IsBackwards (w : SelectWords) : Type 0 where
   pub order : to <ℤ from
 
 -- why the words of `select` are refused: the first that can't be read, or else the order of the times
-abbrev pub RefusesWords : SelectWords → Refusal → Type 0
-RefusesWords w (Value word) = IsFirstWithout (CanRead w) tested_words word
-RefusesWords w Order = IsBackwards w
-RefusesWords w _ = ⊥
+abbrev pub RefusesSelectWords : SelectWords → Refusal → Type 0
+RefusesSelectWords w (Value word) = IsFirstWithout (CanReadWord w) tested_words word
+RefusesSelectWords w Order = HasTimesTurned w
+RefusesSelectWords w _ = ⊥
 
 -- why no query was read; want of memory is free
 abbrev pub StopsWith : (Refusal → Type 0) → Stop → Type 0

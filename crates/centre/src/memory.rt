@@ -1,8 +1,12 @@
 //! A source and a sink in memory, which fail at the calls that they are told.
-ghost use Rattle.std.specs.Prelude.{◌≡◌, ◌≤◌, [], List, Some, take, min, length};
+ghost use Rattle.std.specs.Prelude.{◌≡◌, [], None, Some, take, min, length, MatchResult};
 ghost use Rattle.std.specs.List.{flat_map};
+ghost use Rattle.std.specs.Io.{ReadsAtMost};
+ghost use Rattle.std.specs.Io.KnownBytes.{ReadConsumes};
 ghost use Rattle.std.specs.Option.{option_map};
-ghost use Rattle.centre.specs.Memory.{bytes_left, told};
+ghost use Rattle.exact_time.specs.Causes.{HasCause};
+ghost use Rattle.centre.specs.Memory.{left_of_source, faults_of_source, calls_of_source, fails_of_source, pieces_of_source, with_bytes, GivesPiece, CountsTake, written_of_sink, faults_of_sink, calls_of_sink, fails_of_sink, room_of_sink, part_for, room_behind, CountsPut};
+ghost use Rattle.centre.specs.Streams.{Puts};
 
 use crate::streams::{Sink, Source};
 use exact_time::{Bytes, Failed, Many};
@@ -25,6 +29,9 @@ impl MemorySource {
     pub fn new(pieces: Many<Bytes>, fails: Many<u64>) -> Self
         ensures left { ⟦<MemorySource as Source>⟧.left result ≡ Some (flat_map (λ piece. piece) pieces) }
         ensures faults { ⟦<MemorySource as Source>⟧.faults result ≡ 0 }
+        ensures pieces { pieces_of_source result ≡ with_bytes pieces }
+        ensures calls { calls_of_source result ≡ 0 }
+        ensures fails { fails_of_source result ≡ fails }
     {
         MemorySource {
             pieces,
@@ -48,11 +55,19 @@ fn give(bytes: &[u8], into: &mut [u8]) -> usize
 }
 
 impl Source for MemorySource {
-    ghost left = { λ s. Some (bytes_left s.pieces s.at s.from) };
+    ghost left = { left_of_source };
 
-    ghost faults = { λ s. s.faults };
+    ghost faults = { faults_of_source };
 
-    fn take(&mut self, into: &mut [u8]) -> Result<usize, Failed> {
+    fn take(&mut self, into: &mut [u8]) -> Result<usize, Failed>
+        ensures count { CountsTake self.old self.new result }
+        ensures piece { MatchResult result
+            (λ count. GivesPiece (pieces_of_source self.old) (pieces_of_source self.new) count (length into.old))
+            (λ _. pieces_of_source self.new ≡ pieces_of_source self.old) }
+        ensures bound { ReadsAtMost result into.new }
+        ensures bytes { ReadConsumes (left_of_source self.old) (left_of_source self.new) result into.new }
+        ensures cause { HasCause (faults_of_source self.old) (faults_of_source self.new) result }
+    {
         self.calls = self.calls.saturating_add(1);
         if self.fails.as_slice().contains(&self.calls) {
             self.faults = self.faults.saturating_add(1);
@@ -92,6 +107,9 @@ impl MemorySink {
     pub fn new(alloc: Global, fails: Many<u64>) -> Self
         ensures written { ⟦<MemorySink as Sink>⟧.written result ≡ Some [] }
         ensures faults { ⟦<MemorySink as Sink>⟧.faults result ≡ 0 }
+        ensures calls { calls_of_sink result ≡ 0 }
+        ensures fails { fails_of_sink result ≡ fails }
+        ensures room { room_of_sink result ≡ None }
     {
         MemorySink {
             bytes: Bytes::new(alloc),
@@ -107,6 +125,9 @@ impl MemorySink {
     pub fn limited(alloc: Global, room: u64) -> Self
         ensures written { ⟦<MemorySink as Sink>⟧.written result ≡ Some [] }
         ensures faults { ⟦<MemorySink as Sink>⟧.faults result ≡ 0 }
+        ensures calls { calls_of_sink result ≡ 0 }
+        ensures fails { fails_of_sink result ≡ [] }
+        ensures room { room_of_sink result ≡ Some room }
     {
         MemorySink {
             bytes: Bytes::new(alloc),
@@ -132,7 +153,7 @@ impl MemorySink {
 
 // How many bytes of a piece there is room for.
 fn fitting(room: Option<u64>, size: usize) -> usize
-    ensures { result ≤ size }
+    ensures { result ≡ part_for room size }
 {
     match room {
         Some(room) if room < size as u64 => room as usize,
@@ -141,7 +162,9 @@ fn fitting(room: Option<u64>, size: usize) -> usize
 }
 
 // The room that is left after so many bytes.
-fn left(room: Option<u64>, count: usize) -> Option<u64> {
+fn left(room: Option<u64>, count: usize) -> Option<u64>
+    ensures { result ≡ room_behind room count }
+{
     match room {
         Some(room) => Some(room.saturating_sub(count as u64)),
         None => None,
@@ -149,11 +172,15 @@ fn left(room: Option<u64>, count: usize) -> Option<u64> {
 }
 
 impl Sink for MemorySink {
-    ghost written = { λ s. told s.bytes s.lost };
+    ghost written = { written_of_sink };
 
-    ghost faults = { λ s. s.faults };
+    ghost faults = { faults_of_sink };
 
-    fn put(&mut self, piece: &[u8]) -> Result<usize, Failed> {
+    fn put(&mut self, piece: &[u8]) -> Result<usize, Failed>
+        ensures count { CountsPut self.old self.new result piece.now }
+        ensures bytes { Puts (written_of_sink self.old) (written_of_sink self.new) result piece.now }
+        ensures cause { HasCause (faults_of_sink self.old) (faults_of_sink self.new) result }
+    {
         self.calls = self.calls.saturating_add(1);
         let count = fitting(self.room, piece.len());
         let is_full = count == 0 && !piece.is_empty();

@@ -4,8 +4,8 @@ ghost use Rattle.exact_time.specs.Causes.{Rose};
 ghost use Rattle.centre.specs.Answers.{IsAnswer, stop_for_data};
 ghost use Rattle.centre.specs.Commands.{command_of};
 ghost use Rattle.centre.specs.Arguments.{words_at};
-ghost use Rattle.centre.specs.Settled.{Told, ComesWhere, IsComplete, IsCutShort, IsSettled, IsWritten, IsRefused, IsTooLarge};
-ghost use Rattle.centre.specs.Table.{IsRun, Row, SelectRow, ShowRow, stream, world};
+ghost use Rattle.centre.specs.Settled.{Told, ComesWhere, IsComplete, IsCutShort, IsSettled, HasWritten, IsRefused, IsTooLarge};
+ghost use Rattle.centre.specs.Table.{IsRun, IsEnding, SelectRow, ShowRow, stream, world};
 
 use crate::commands::{CommandWords, SelectArguments, command_in};
 use crate::ending::{Refusal, Stop};
@@ -81,7 +81,7 @@ fn obey<S: Source, K: Sink>(
     source: &mut S,
     sink: &mut K,
 ) -> Result<(), Stop>
-    ensures row { Row (command_of (map string_bytes words.now))
+    ensures row { IsEnding (command_of (map string_bytes words.now))
         (world (stream S.left S.faults source.old) (stream K.written K.faults sink.old))
         (world (stream S.left S.faults source.new) (stream K.written K.faults sink.new))
         result }
@@ -136,7 +136,7 @@ pub fn run<R, S: Source, K: Sink, E: Sink>(
     ensures kept { result ≢ 0 → result ≢ 6 → stream K.written K.faults sink.new ≡ stream K.written K.faults sink.old }
 
     // The rows that a reader looks for.
-    ensures written { result ≡ 0 → IsWritten (command_of (map string_bytes words.now))
+    ensures written { result ≡ 0 → HasWritten (command_of (map string_bytes words.now))
         (world (stream S.left S.faults source.old) (stream K.written K.faults sink.old))
         (world (stream S.left S.faults source.new) (stream K.written K.faults sink.new)) }
     ensures unknown { (result ≡ 1) ↔ (command_of (map string_bytes words.now) ≡ None) }

@@ -1,6 +1,6 @@
 //! Tells why a run stopped.
 ghost use Rattle.std.specs.Prelude.{◌≡◌, ◌⊎◌, string_bytes, IfOk};
-ghost use Rattle.centre.specs.Status.{name_of_word, name_of_fault, text_of, text_of_refusal};
+ghost use Rattle.centre.specs.Status.{name_of_word, name_of_fault, error_text_of, text_of_refusal};
 ghost use Rattle.centre.specs.Table.{Tells, ToldFor, stream};
 
 use crate::ending::{Refusal, Stop, Word};
@@ -75,7 +75,7 @@ fn tell_made<E: Sink>(errors: &mut E, refusal: Refusal, made: Result<String, All
     requires { IfOk made (λ text. string_bytes text ≡ text_of_refusal refusal) }
     ensures same { (result ≡ Stop.Refused refusal) ⊎ (result ≡ Stop.OutOfMemory) }
     ensures text { Tells (stream E.written E.faults errors.old) (stream E.written E.faults errors.new)
-        (text_of result) }
+        (error_text_of result) }
 {
     match made {
         Ok(text) => {
@@ -93,7 +93,7 @@ fn tell_made<E: Sink>(errors: &mut E, refusal: Refusal, made: Result<String, All
 fn tell_refusal<E: Sink>(alloc: Global, errors: &mut E, refusal: Refusal) -> Stop
     ensures same { ToldFor (Stop.Refused refusal) result }
     ensures text { Tells (stream E.written E.faults errors.old) (stream E.written E.faults errors.new)
-        (text_of result) }
+        (error_text_of result) }
 {
     match refusal {
         Refusal::UnknownCommand => tell(errors, "centre: unknown command line\n"),
@@ -115,7 +115,7 @@ fn tell_refusal<E: Sink>(alloc: Global, errors: &mut E, refusal: Refusal) -> Sto
 pub fn tell_stop<E: Sink>(alloc: Global, errors: &mut E, stop: Stop) -> Stop
     ensures same { ToldFor stop result }
     ensures text { Tells (stream E.written E.faults errors.old) (stream E.written E.faults errors.new)
-        (text_of result) }
+        (error_text_of result) }
 {
     match stop {
         Stop::Refused(refusal) => return tell_refusal(alloc, errors, refusal),
@@ -130,7 +130,7 @@ pub fn tell_stop<E: Sink>(alloc: Global, errors: &mut E, stop: Stop) -> Stop
 pub fn out_of_memory<E: Sink>(errors: &mut E) -> u8
     ensures status { result ≡ 70 }
     ensures text { Tells (stream E.written E.faults errors.old) (stream E.written E.faults errors.new)
-        (text_of Stop.OutOfMemory) }
+        (error_text_of Stop.OutOfMemory) }
 {
     tell(errors, MEMORY_TEXT);
     Stop::OutOfMemory.status()

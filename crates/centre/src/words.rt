@@ -4,7 +4,7 @@ ghost use Rattle.exact_time.specs.MomentText.{IsMoment};
 ghost use Rattle.channel_globs.specs.PatternText.{IsPatternList};
 ghost use Rattle.query_words.specs.Values.{quality_of, flag_of, IsMinimum};
 ghost use Rattle.centre.specs.Arguments.{words_at};
-ghost use Rattle.centre.specs.Words.{stop_for, code_words, time_words, CanReadAll, IsList, IsTime, IsQuality, IsLength, IsFlag, IsNamed, AreOptions, IsSelectQuery, RefusesWords, StopsWith};
+ghost use Rattle.centre.specs.Words.{stop_for, code_words, time_words, CanReadWords, IsList, IsTime, IsQuality, IsLength, IsFlag, IsNamed, AreSelectOptions, IsSelectQuery, RefusesSelectWords, StopsWith};
 
 use crate::commands::SelectArguments;
 use crate::ending::{Refusal, Stop, Word};
@@ -83,7 +83,7 @@ fn longest(text: &str) -> Result<bool, Refusal>
 // The selection of the four code words, without a window.
 fn names(alloc: Global, arguments: &SelectArguments) -> Result<Selection, Stop>
     ensures ok { IfOk result (λ s. IsNamed (words_at arguments.now) s) }
-    ensures err { IfErr result (StopsWith (RefusesWords (words_at arguments.now))) }
+    ensures err { IfErr result (StopsWith (RefusesSelectWords (words_at arguments.now))) }
 {
     let network = patterns(alloc, arguments.network, Part::Network, Word::Network)?;
     let station = patterns(alloc, arguments.station, Part::Station, Word::Station)?;
@@ -101,10 +101,10 @@ fn names(alloc: Global, arguments: &SelectArguments) -> Result<Selection, Stop>
 
 // The moments of the two time words. The words before them can be read.
 fn times(arguments: &SelectArguments) -> Result<(Moment, Moment), Refusal>
-    requires { CanReadAll (words_at arguments.now) code_words }
+    requires { CanReadWords (words_at arguments.now) code_words }
     ensures from { IfOk result (λ times. IsMoment arguments.now.start.now times.0.micros) }
     ensures to { IfOk result (λ times. IsMoment arguments.now.end.now times.1.micros) }
-    ensures err { IfErr result (RefusesWords (words_at arguments.now)) }
+    ensures err { IfErr result (RefusesSelectWords (words_at arguments.now)) }
 {
     let from = match moment(arguments.start, Word::Start) {
         Ok(from) => from,
@@ -118,9 +118,9 @@ fn times(arguments: &SelectArguments) -> Result<(Moment, Moment), Refusal>
 
 // What the option words ask for. The words before them can be read.
 fn options(arguments: &SelectArguments) -> Result<(Option<Quality>, u64, bool), Refusal>
-    requires { CanReadAll (words_at arguments.now) (code_words ++ time_words) }
-    ensures ok { IfOk result (λ options. AreOptions (words_at arguments.now) options.0 options.1 options.2) }
-    ensures err { IfErr result (RefusesWords (words_at arguments.now)) }
+    requires { CanReadWords (words_at arguments.now) (code_words ++ time_words) }
+    ensures ok { IfOk result (λ options. AreSelectOptions (words_at arguments.now) options.0 options.1 options.2) }
+    ensures err { IfErr result (RefusesSelectWords (words_at arguments.now)) }
 {
     let quality = match quality(arguments.quality) {
         Ok(quality) => quality,
@@ -149,7 +149,7 @@ fn only(alloc: Global, selection: Selection) -> Result<Many<Selection>, Stop>
 /// The query of the words of `select`, or why they spell none.
 pub fn select_query(alloc: Global, arguments: &SelectArguments) -> Result<DataQuery, Stop>
     ensures ok { IfOk result (λ query. IsSelectQuery (words_at arguments.now) query) }
-    ensures err { IfErr result (StopsWith (RefusesWords (words_at arguments.now))) }
+    ensures err { IfErr result (StopsWith (RefusesSelectWords (words_at arguments.now))) }
 {
     let mut selection = names(alloc, arguments)?;
     let (from, to) = match times(arguments) {

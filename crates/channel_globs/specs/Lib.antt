@@ -1,3 +1,4 @@
 pub mod CodeBytes
 pub mod Matching
+pub mod Names
 pub mod PatternText

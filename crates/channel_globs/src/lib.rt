@@ -19,7 +19,7 @@ mod reading;
 mod tests;
 
 pub use code::Code;
-pub use law::a_text_is_one_list_or_one_fault;
+pub use law::{a_text_is_one_list_or_one_fault, names_are_in_order_of_their_fields};
 pub use nslc::{Nslc, Part};
 pub use patterns::{GlobFault, PatternList};
 pub use reading::is_blank_location;

@@ -18,7 +18,7 @@ use Rattle.dataselect.specs.declared.query.Selection.{Selection}
 use Rattle.dataselect.specs.declared.query.DataQuery.{DataQuery}
 use Rattle.dataselect.specs.Query.{holds, is_named, reaches, starts_by, is_selected, is_asked}
 use Rattle.dataselect.specs.Law.{IsNamedBy, IsReached, IsSelectedBy, IsAskedBy}
-use Rattle.dataselect.proofs.Ranks.{letters_apart}
+use Rattle.mseed_header.proofs.Qualities.{letters_apart}
 
 holds_decides : {T : Type 0} (test : T → Bool) (P : T → Type 0) → ((x : T) → IsTrue (test x) ↔ P x) → (o : Option T) → IsTrue (holds test o) ↔ IfSome o P
 holds_decides test P each None = (λ h. tt, λ h. refl)

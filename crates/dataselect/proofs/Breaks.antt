@@ -8,10 +8,10 @@ use Rattle.exact_time.specs.SampleTime.{half_parts}
 use Rattle.mseed_header.specs.Quality.{quality_letter}
 use Rattle.mseed_header.specs.declared.header.Header.{Header}
 use Rattle.mseed_header.specs.declared.row.Row.{Row}
-use Rattle.dataselect.specs.PickedLaw.{Follows, IsUnbroken, AreApart, AreAllApart, AreSegments}
+use Rattle.dataselect.specs.PickedLaw.{Continues, IsUnbroken, AreApart, AreAllApart, AreSegments}
 use Rattle.dataselect.specs.Runs.{put_before}
 use Rattle.dataselect.specs.Segments.{is_same_name, is_same_rate, apart_parts, is_break, breaks_or, breaks_at, segments_of}
-use Rattle.dataselect.proofs.Ranks.{letters_apart}
+use Rattle.mseed_header.proofs.Qualities.{letters_apart}
 use Rattle.dataselect.proofs.Rises.{same_names, same_name_of}
 use Rattle.dataselect.proofs.Wholes.{runs_whole}
 
@@ -88,13 +88,13 @@ found_rows (Some a) (Some b) h = (a, b, refl, refl, h)
 found_rows (Some a) None h = (cc)
 found_rows None b h = (cc)
 
-follows_of : (rows : List Row) (i j : ℕ) → breaks_at rows i j ≡ false → Follows rows i j
+follows_of : (rows : List Row) (i j : ℕ) → breaks_at rows i j ≡ false → Continues rows i j
 follows_of rows i j h =
     let f = found_rows (slice_get rows i) (slice_get rows j) h in
     let n = next_of f.0.header f.1.header f.4 in
     record { before = f.0; row = f.1; before_stands = f.2; row_stands = f.3; name = n.name; quality = n.quality; num = n.num; den = n.den; some = n.some; near = n.near }
 
-follows_from : (rows : List Row) (i j : ℕ) → Follows rows i j → breaks_at rows i j ≡ false
+follows_from : (rows : List Row) (i j : ℕ) → Continues rows i j → breaks_at rows i j ≡ false
 follows_from rows i j f =
     ap (λ (o : Option Row). breaks_or o (slice_get rows j)) f.before_stands ∙ ap (breaks_or (Some f.before)) f.row_stands
     ∙ next_from f.before.header f.row.header (record { name = f.name; quality = f.quality; num = f.num; den = f.den; some = f.some; near = f.near })

@@ -4,7 +4,8 @@ use Rattle.std.specs.Prelude.{nat_lt}
 use Rattle.std.proofs.Math.Nat.{one-dvd}
 use Rattle.std.specs.declared.cmp.Ordering.TheVariants.{Less, Greater}
 use Rattle.mseed_header.specs.declared.quality.Quality.TheVariants.{D, M}
-use Rattle.dataselect.specs.Order.{name_cmp, rank_cmp}
+use Rattle.channel_globs.specs.Names.{name_cmp}
+use Rattle.dataselect.specs.Order.{rank_cmp}
 use Rattle.mseed_header.proofs.Examples.{anmo_row, anmo_image}
 use Rattle.dataselect.specs.Chosen.{chosen_places}
 use Rattle.dataselect.specs.DataBody.{data_body, answer_of}

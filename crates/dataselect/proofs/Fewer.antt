@@ -20,7 +20,8 @@ use Rattle.dataselect.specs.declared.query.DataQuery.{DataQuery}
 use Rattle.dataselect.specs.Chosen.{asked_rows, passes, ranks_from, ranks_chosen, chosen_places}
 use Rattle.dataselect.specs.DataBody.{image_of, images_at, body_within, body_or_empty}
 use Rattle.dataselect.specs.Longest.{is_exceeded, longest_by}
-use Rattle.dataselect.specs.Order.{name_cmp, rank_cmp, rank_at}
+use Rattle.channel_globs.specs.Names.{name_cmp}
+use Rattle.dataselect.specs.Order.{rank_cmp, rank_at}
 use Rattle.mseed_header.specs.Quality.{quality_letter}
 use Rattle.std.specs.Ordering.{int_cmp}
 use Rattle.dataselect.specs.Picked.{long_segments, longest_segments, picked_of, picked_places}

@@ -13,14 +13,16 @@ use Rattle.mseed_header.specs.declared.row.Row.{Row}
 use Rattle.dataselect.specs.declared.order.Rank.{Rank}
 use Rattle.dataselect.specs.declared.query.DataQuery.{DataQuery}
 use Rattle.dataselect.specs.Chosen.{ranks_from, ranks_chosen, chosen_places}
-use Rattle.dataselect.specs.Order.{name_cmp, rank_cmp}
+use Rattle.channel_globs.specs.Names.{name_cmp}
+use Rattle.dataselect.specs.Order.{rank_cmp}
 use Rattle.dataselect.specs.Picked.{IsNotAfter, NamesRise, long_segments}
 use Rattle.dataselect.specs.Runs.{put_before, runs_by}
 use Rattle.dataselect.specs.Segments.{is_same_name, are_same_or, have_one_name, breaks_at, is_long}
 use Rattle.dataselect.proofs.Bests.{all_filtered}
 use Rattle.dataselect.proofs.Cuts.{all_dropped}
 use Rattle.dataselect.proofs.Members.{IsRanked, ranked}
-use Rattle.dataselect.proofs.Ranks.{names_total, exact_names, ranks_total}
+use Rattle.channel_globs.proofs.Names.{names_total, exact_names}
+use Rattle.dataselect.proofs.Ranks.{ranks_total}
 
 then_less : (a b : Nslc) (rest : Ordering) → ordering_then (name_cmp a b) rest ≡ Less → (name_cmp a b ≡ Less) ⊎ (a ≡ b)
 then_less a b rest =

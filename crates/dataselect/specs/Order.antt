@@ -2,24 +2,16 @@
 use Rattle.std.specs.Prelude.{ℕ}
 use Rattle.std.specs.declared.cmp.Ordering.{Ordering}
 use Rattle.std.specs.Ordering.{nat_cmp, int_cmp, ordering_then}
-use Rattle.std.specs.Cmp.Lexicographic.{slice_cmp}
-use Rattle.channel_globs.specs.declared.nslc.Nslc.{Nslc}
-use Rattle.mseed_header.specs.Quality.{quality_letter}
+use Rattle.channel_globs.specs.Names.{name_cmp}
+use Rattle.mseed_header.specs.Quality.{quality_cmp}
 use Rattle.mseed_header.specs.declared.row.Row.{Row}
 use Rattle.dataselect.specs.declared.order.Rank.{Rank}
-
--- by network, station, location and channel, each by its bytes
-abbrev pub name_cmp : Nslc → Nslc → Ordering
-name_cmp a b =
-    ordering_then (slice_cmp nat_cmp a.network b.network)
-    (ordering_then (slice_cmp nat_cmp a.station b.station)
-    (ordering_then (slice_cmp nat_cmp a.location b.location) (slice_cmp nat_cmp a.channel b.channel)))
 
 -- by name, quality letter, start, entry, place and place in the shelf
 abbrev pub rank_cmp : Rank → Rank → Ordering
 rank_cmp a b =
     ordering_then (name_cmp a.name b.name)
-    (ordering_then (nat_cmp (quality_letter a.quality) (quality_letter b.quality))
+    (ordering_then (quality_cmp a.quality b.quality)
     (ordering_then (int_cmp a.start.micros b.start.micros)
     (ordering_then (nat_cmp a.entry b.entry)
     (ordering_then (nat_cmp a.place b.place) (nat_cmp a.index b.index)))))

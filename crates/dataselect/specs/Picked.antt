@@ -6,7 +6,7 @@ use Rattle.std.specs.declared.cmp.Ordering.TheVariants.{Less}
 use Rattle.mseed_header.specs.declared.row.Row.{Row}
 use Rattle.dataselect.specs.declared.query.DataQuery.{DataQuery}
 use Rattle.dataselect.specs.Chosen.{chosen_places}
-use Rattle.dataselect.specs.Order.{name_cmp}
+use Rattle.channel_globs.specs.Names.{name_cmp}
 use Rattle.dataselect.specs.Longest.{longest_by}
 use Rattle.dataselect.specs.Segments.{segments_of, is_long, is_longer, have_one_name}
 

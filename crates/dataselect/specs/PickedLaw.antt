@@ -9,7 +9,7 @@ use Rattle.dataselect.specs.Segments.{apart_parts, segment_length}
 
 -- The row at the second place follows the row at the first: name, quality and rate are the same, the rate
 -- isn't 0, and its start and the next of the first are apart by half a sample period at most.
-pub record Follows (rows : List Row) (i j : ℕ) : Type 0 where
+pub record Continues (rows : List Row) (i j : ℕ) : Type 0 where
   pub before : Row
   pub row : Row
   pub before_stands : slice_get rows i ≡ Some before
@@ -25,11 +25,11 @@ pub record Follows (rows : List Row) (i j : ℕ) : Type 0 where
 abbrev pub IsUnbroken : List Row → List ℕ → Type 0
 IsUnbroken rows [] = ⊤
 IsUnbroken rows (i ∷ []) = ⊤
-IsUnbroken rows (i ∷ j ∷ places) = Follows rows i j × IsUnbroken rows (j ∷ places)
+IsUnbroken rows (i ∷ j ∷ places) = Continues rows i j × IsUnbroken rows (j ∷ places)
 
 -- the first place of the second segment doesn't follow the last place of the first
 abbrev pub AreApart : List Row → List ℕ → List ℕ → Type 0
-AreApart rows s t = (before after : List ℕ) (i j : ℕ) → s ≡ before ++ i ∷ [] → t ≡ j ∷ after → ¬ Follows rows i j
+AreApart rows s t = (before after : List ℕ) (i j : ℕ) → s ≡ before ++ i ∷ [] → t ≡ j ∷ after → ¬ Continues rows i j
 
 -- each segment is apart from the one before it
 abbrev pub AreAllApart : List Row → List (List ℕ) → Type 0

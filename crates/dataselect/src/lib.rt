@@ -20,7 +20,9 @@ mod shelf;
 mod sight;
 
 pub use answers::{DataRefusal, answer};
-pub use law::{chosen_in_the_subjects_words, picked_in_the_subjects_words};
+pub use law::{
+    chosen_in_the_subjects_words, picked_in_the_subjects_words, rows_that_are_asked_for_decide,
+};
 pub use order::{Rank, places_of, rank_of};
 pub use picked::pick;
 pub use plain::{PlainShelf, is_chosen};

@@ -37,15 +37,17 @@ impl Sight for All {
 
     ghost touched = { λ _ _. false };
 
-    fn sees(&self, _row: &Row) -> bool {
-        true
+    fn sees(&self, row: &Row) -> bool {
+        !self.restricted(row)
     }
 
     fn restricted(&self, _row: &Row) -> bool {
         false
     }
 
-    fn whole(&self, _name: &Nslc) -> bool {
+    fn whole(&self, _name: &Nslc) -> bool
+        ensures { result ≡ true }
+    {
         true
     }
 }

@@ -1,7 +1,7 @@
 -- Worked examples of the definitions.
 use Rattle.std.proofs.Common.{◌≡◌, inl, List, [], ◌∷◌, true, false, refl, arith, codes}
 use Rattle.disk_model.specs.Disk.{overwritten, Gives, Torn, Shortened}
-use Rattle.disk_model.specs.Changes.{State, at_rest, state_after, LeftSince}
+use Rattle.disk_model.specs.Changes.{State, at_rest, state_after, changes_in, LeftSince}
 use Rattle.disk_model.specs.Choices.{is_free}
 use Rattle.disk_model.specs.declared.change.Change.TheVariants.{Wrote, Tore, Cut, Synced}
 use Rattle.disk_model.specs.declared.change.Step.{Step}
@@ -35,10 +35,10 @@ steps = record { change = Wrote 2 (codes "XY"); moment = 1 } ∷ record { change
 
 state : State
 unfolding steps
-state = state_after (at_rest (codes "abcdef")) steps
+state = state_after (at_rest (codes "abcdef")) (changes_in steps)
 
 -- after these changes: the file as it reads, the file at the last sync, the least and greatest length
-reads : state.seen ≡ codes "abXYe"
+reads : state.content ≡ codes "abXYe"
 unfolding state
 reads = refl
 

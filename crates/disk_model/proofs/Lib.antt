@@ -1,10 +1,12 @@
 pub mod ImageSteps
 pub mod Overwrites
 pub mod Sound
+pub mod Room
 pub mod Past
 pub mod MemoryCalls
 pub mod Fills
 pub mod Moments
 pub mod Leaving
 pub mod Marking
+pub mod ReadingOn
 pub mod Examples

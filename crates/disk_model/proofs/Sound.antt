@@ -32,9 +32,9 @@ unwritten_at at n k b is = let both = neither (is_within at n k) b is in (outsid
 
 -- where the write begins in the file
 abbrev pub Fits : State → Change → Type 0
-Fits s (Wrote at bytes) = at ≤ length s.seen
-Fits s (Tore at len) = at ≤ length s.seen
-Fits s (Cut len) = len ≤ length s.seen
+Fits s (Wrote at bytes) = at ≤ length s.content
+Fits s (Tore at len) = at ≤ length s.content
+Fits s (Cut len) = len ≤ length s.content
 Fits s Synced = Unit {0}
 
 pub sound_at_rest : (file : List ℕ) → IsSound (at_rest file)
@@ -48,18 +48,18 @@ image_stays i at n image is = record {
   kept = λ k lt base free. is.kept k lt base (unwritten_at at n k (i.is_written k) free).1;
 }
 
-sound_write : (s : State) (at : ℕ) (bytes : List ℕ) → at ≤ length s.seen → IsSound s → IsSound (after s (Wrote at bytes))
+sound_write : (s : State) (at : ℕ) (bytes : List ℕ) → at ≤ length s.content → IsSound s → IsSound (after s (Wrote at bytes))
 sound_write s at bytes inside sound =
-    let size = length-overwritten s.seen at bytes inside in
-    let torn = overwritten_torn s.seen at bytes inside in record {
+    let size = length-overwritten s.content at bytes inside in
+    let torn = overwritten_torn s.content at bytes inside in record {
       reads = record {
         no_shorter = omega (arith, size, sound.reads.no_shorter);
         no_longer = omega (arith, size, sound.reads.no_longer);
         kept = λ k lt base free.
             let out = unwritten_at at (length bytes) k (s.images.is_written k) free in
-            let old : (k < length s.seen) × (get_or (overwritten s.seen at bytes) k 0 ≡ get_or s.seen k 0) = elim out.0 [
-              | inl below ↦ torn_before at (length bytes) s.seen (overwritten s.seen at bytes) torn k below lt
-              | inr above ↦ torn_behind at (length bytes) s.seen (overwritten s.seen at bytes) torn k above lt
+            let old : (k < length s.content) × (get_or (overwritten s.content at bytes) k 0 ≡ get_or s.content k 0) = elim out.0 [
+              | inl below ↦ torn_before at (length bytes) s.content (overwritten s.content at bytes) torn k below lt
+              | inr above ↦ torn_behind at (length bytes) s.content (overwritten s.content at bytes) torn k above lt
             ] in
             old.1 ∙ sound.reads.kept k old.0 base out.1;
       };
@@ -70,11 +70,11 @@ sound_write s at bytes inside sound =
 sound_cut : (s : State) (len : ℕ) → IsSound s → IsSound (after s (Cut len))
 sound_cut s len sound = record {
   reads = record {
-    no_shorter = omega (arith, length-take len s.seen, sound.reads.no_shorter);
-    no_longer = omega (arith, length-take len s.seen, sound.reads.no_longer);
+    no_shorter = omega (arith, length-take len s.content, sound.reads.no_shorter);
+    no_longer = omega (arith, length-take len s.content, sound.reads.no_longer);
     kept = λ k lt base free.
-        let l = length-take len s.seen in
-        get_or-take len s.seen k 0 (omega (arith, l, lt)) ∙ sound.reads.kept k (omega (arith, l, lt)) base free;
+        let l = length-take len s.content in
+        get_or-take len s.content k 0 (omega (arith, l, lt)) ∙ sound.reads.kept k (omega (arith, l, lt)) base free;
   };
   shortest = omega (arith, sound.shortest);
   longest = sound.longest;
@@ -84,9 +84,9 @@ sound_cut s len sound = record {
 pub sound_after : (s : State) (change : Change) → Fits s change → IsSound s → IsSound (after s change)
 sound_after s (Wrote at bytes) fits sound = sound_write s at bytes fits sound
 sound_after s (Tore at len) fits sound = record {
-  reads = image_stays s.images at len s.seen sound.reads;
+  reads = image_stays s.images at len s.content sound.reads;
   shortest = sound.shortest;
   longest = omega (arith, sound.longest);
 }
 sound_after s (Cut len) fits sound = sound_cut s len sound
-sound_after s Synced fits sound = sound_at_rest s.seen
+sound_after s Synced fits sound = sound_at_rest s.content

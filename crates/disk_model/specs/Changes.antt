@@ -1,5 +1,5 @@
 -- What a list of changes makes of a disk, and what a crash at each moment might have left.
-use Rattle.std.specs.Prelude.{◌<◌, ◌⊎◌, ℕ, List, [], ◌∷◌, length, take, Bool, nat_le}
+use Rattle.std.specs.Prelude.{◌<◌, ◌⊎◌, ℕ, List, [], ◌∷◌, length, map, take, Bool, nat_le}
 use Rattle.std.specs.List.{list_all}
 use Rattle.disk_model.specs.Disk.{overwritten}
 use Rattle.disk_model.specs.Images.{Images, IsImage, synced, after_write, after_cut}
@@ -9,24 +9,28 @@ use Rattle.disk_model.specs.declared.change.Step.{Step}
 
 -- what a read gives, and what is known of the images
 pub record State : Type 0 where
-  pub seen : List ℕ
+  pub content : List ℕ
   pub images : Images
 
 -- a disk at rest
 abbrev pub at_rest : List ℕ → State
-at_rest file = record { seen = file; images = synced file }
+at_rest file = record { content = file; images = synced file }
 
 -- one change
 abbrev pub after : State → Change → State
-after s (Wrote at bytes) = record { seen = overwritten s.seen at bytes; images = after_write s.images at (length bytes) }
-after s (Tore at len) = record { seen = s.seen; images = after_write s.images at len }
-after s (Cut len) = record { seen = take len s.seen; images = after_cut s.images len }
-after s Synced = at_rest s.seen
+after s (Wrote at bytes) = record { content = overwritten s.content at bytes; images = after_write s.images at (length bytes) }
+after s (Tore at len) = record { content = s.content; images = after_write s.images at len }
+after s (Cut len) = record { content = take len s.content; images = after_cut s.images len }
+after s Synced = at_rest s.content
 
 -- all of them, in order
-abbrev pub state_after : State → List Step → State
+abbrev pub state_after : State → List Change → State
 state_after s [] = s
-state_after s (step ∷ steps) = state_after (after s step.change) steps
+state_after s (change ∷ changes) = state_after (after s change) changes
+
+-- the changes of these steps, without their times
+abbrev pub changes_in : List Step → List Change
+changes_in steps = map (λ step. step.change) steps
 
 -- A crash at some moment since t might have left this image: before a change that came later than t, or
 -- after the last change.

@@ -16,7 +16,7 @@ pub record IsFilled (test : ℕ → Bool) (file : List ℕ) (byte : ℕ) (image 
 
 -- the image that is asked for: the file at the last sync, the file as it reads, or the file as it reads
 -- with each free byte set to this one
-abbrev pub IsChosen : State → Choice → List ℕ → Type 0
-IsChosen s Old image = image ≡ s.images.base
-IsChosen s New image = image ≡ s.seen
-IsChosen s (Fill byte) image = IsFilled (is_free s.images) s.seen byte image
+abbrev pub IsImageFor : State → Choice → List ℕ → Type 0
+IsImageFor s Old image = image ≡ s.images.base
+IsImageFor s New image = image ≡ s.content
+IsImageFor s (Fill byte) image = IsFilled (is_free s.images) s.content byte image

@@ -1,6 +1,6 @@
 -- A disk in memory behind a fuse.
-use Rattle.std.specs.Prelude.{◌≡◌, ℕ, ◌-◌, Result, IsErr}
-use Rattle.disk_model.specs.Memory.{IsSame}
+use Rattle.std.specs.Prelude.{◌≡◌, ℕ, ◌-◌, ◌<◌, Result, IsErr}
+use Rattle.disk_model.specs.Calls.{IsUnreached}
 use Rattle.disk_model.specs.declared.memory.MemoryDisk.{MemoryDisk}
 use Rattle.disk_model.specs.declared.fuse.FuseDisk.{FuseDisk}
 
@@ -12,7 +12,9 @@ disk_of fuse = fuse.disk
 abbrev pub calls_left : FuseDisk → ℕ
 calls_left fuse = fuse.left
 
--- one call uses up one of those that pass; where none is left, it fails and doesn't reach the disk
-pub record Burns {T E : Type 0} (old new : FuseDisk) (result : Result T E) : Type 0 where
+-- One call uses up one of those that pass. While some are left, the disk behind the fuse makes the call as
+-- if there were no fuse; then every call fails, and the disk stays but for the time and its faults.
+pub record Burns {T E : Type 0} (makes : MemoryDisk → MemoryDisk → Result T E → Type 0) (old new : FuseDisk) (result : Result T E) : Type 0 where
   pub one_less : calls_left new ≡ calls_left old - 1
-  pub blown : calls_left old ≡ 0 → IsErr result × IsSame (disk_of old) (disk_of new)
+  pub passed : 0 < calls_left old → makes (disk_of old) (disk_of new) result
+  pub blown : calls_left old ≡ 0 → IsErr result × IsUnreached (disk_of old) (disk_of new)

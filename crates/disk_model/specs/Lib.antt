@@ -1,6 +1,8 @@
+pub mod Calls
 pub mod Changes
 pub mod Choices
 pub mod Disk
+pub mod File
 pub mod Fuse
 pub mod Images
 pub mod Marked

@@ -3,8 +3,8 @@ use Rattle.std.specs.Prelude.{◌≡◌, ◌⊎◌, ℕ, ◌≤◌, List, [], �
 use Rattle.disk_model.specs.Disk.{overwritten}
 
 -- the file, and behind it anything, as long as the bytes or shorter
-abbrev pub IsLonger : List ℕ → List ℕ → List ℕ → Type 0
-IsLonger file bytes image = (rest : List ℕ) × (length rest ≤ length bytes) × (image ≡ file ++ rest)
+abbrev pub HasMoreBehind : List ℕ → List ℕ → List ℕ → Type 0
+HasMoreBehind file bytes image = (rest : List ℕ) × (length rest ≤ length bytes) × (image ≡ file ++ rest)
 
 -- the file and the bytes, with some byte at `at`
 abbrev pub IsMarked : List ℕ → List ℕ → ℕ → List ℕ → Type 0
@@ -13,4 +13,4 @@ IsMarked file bytes at image = (byte : ℕ) × (image ≡ overwritten (file ++ b
 -- the bytes of before are there, and the image is one of these
 pub record IsStaged (file bytes : List ℕ) (at : ℕ) (image : List ℕ) : Type 0 where
   pub old_bytes : take (length file) image ≡ file
-  pub form : IsLonger file bytes image ⊎ IsMarked file bytes at image
+  pub form : HasMoreBehind file bytes image ⊎ IsMarked file bytes at image

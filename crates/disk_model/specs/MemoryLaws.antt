@@ -4,27 +4,27 @@ use Rattle.std.proofs.Common.{inl, inr, sym, subst}
 use Rattle.std.proofs.Math.Nat.{not-le_of_lt}
 use Rattle.std.proofs.lemmas.Bool.{and_parts, leb-true}
 use Rattle.disk_model.specs.Images.{IsImage}
-use Rattle.disk_model.specs.Changes.{State, at_rest, after, state_after, LeftSince, all_by}
-use Rattle.disk_model.specs.Memory.{seen_of, state_of, images_of, images_since}
+use Rattle.disk_model.specs.Changes.{State, at_rest, after, state_after, changes_in, LeftSince, all_by}
+use Rattle.disk_model.specs.Memory.{made_with, content_of, state_of, images_now, images_since}
 use Rattle.disk_model.specs.declared.change.Step.{Step}
 use Rattle.disk_model.specs.declared.memory.MemoryDisk.{MemoryDisk}
 
 -- this moment is one of those since an earlier one
-pub left_now : (s : State) (steps : List Step) (t : ℕ) (image : List ℕ) → IsImage (state_after s steps).images image → LeftSince s steps t image
+pub left_now : (s : State) (steps : List Step) (t : ℕ) (image : List ℕ) → IsImage (state_after s (changes_in steps)).images image → LeftSince s steps t image
 left_now s [] t image is = is
 left_now s (x ∷ xs) t image is = inr (left_now (after s x.change) xs t image is)
 
 -- since a moment after the last change there is what is there now
-pub left_only_now : (s : State) (steps : List Step) (moment : ℕ) (image : List ℕ) → all_by moment steps ≡ true → LeftSince s steps moment image → IsImage (state_after s steps).images image
+pub left_only_now : (s : State) (steps : List Step) (moment : ℕ) (image : List ℕ) → all_by moment steps ≡ true → LeftSince s steps moment image → IsImage (state_after s (changes_in steps)).images image
 left_only_now s [] moment image by left = left
 left_only_now s (x ∷ xs) moment image by (inl early) = absurd (not-le_of_lt early.0 (leb-true x.moment moment (and_parts (nat_le x.moment moment) (all_by moment xs) by).0))
 left_only_now s (x ∷ xs) moment image by (inr left) = left_only_now (after s x.change) xs moment image (and_parts (nat_le x.moment moment) (all_by moment xs) by).1 left
 
-pub reads_image : (disk : MemoryDisk) → images_of disk (seen_of disk)
-reads_image disk = subst (IsImage (state_of disk).images) (sym disk.kept.seen_is) disk.kept.sound.reads
+pub reads_image : (disk : MemoryDisk) → images_now disk (content_of disk)
+reads_image disk = subst (IsImage (state_of disk).images) (sym disk.kept.content_is) disk.kept.sound.reads
 
-pub counts_this_moment : (disk : MemoryDisk) (t : ℕ) (image : List ℕ) → images_of disk image → images_since disk t image
-counts_this_moment disk t image now = left_now (at_rest disk.first) disk.steps.items t image now
+pub counts_this_moment : (disk : MemoryDisk) (t : ℕ) (image : List ℕ) → images_now disk image → images_since disk t image
+counts_this_moment disk t image now = left_now (at_rest (made_with disk)) disk.steps.items t image now
 
-pub only_this_moment : (disk : MemoryDisk) (image : List ℕ) → images_since disk disk.moment image → images_of disk image
-only_this_moment disk image left = left_only_now (at_rest disk.first) disk.steps.items disk.moment image disk.kept.in_time left
+pub only_this_moment : (disk : MemoryDisk) (image : List ℕ) → images_since disk disk.moment image → images_now disk image
+only_this_moment disk image left = left_only_now (at_rest (made_with disk)) disk.steps.items disk.moment image disk.kept.in_time left

@@ -4,7 +4,7 @@ use exact_time::Bytes;
 
 /// What a call did to the disk.
 #[derive(Debug, Drop)]
-pub(crate) enum Change {
+pub enum Change {
     /// It wrote these bytes.
     Wrote { at: usize, bytes: Bytes },
     /// It failed, and may have written any part of so many bytes.

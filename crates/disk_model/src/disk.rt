@@ -18,7 +18,7 @@ pub trait Disk {
     ghost tells: { Self → Bool };
 
     /// The bytes that a read gives.
-    ghost seen: { Self → List ℕ };
+    ghost content: { Self → List ℕ };
 
     /// The images: each file that a crash now may leave.
     ghost may_leave: { Self → List ℕ → Type 0 };
@@ -36,8 +36,8 @@ pub trait Disk {
     fn len(&mut self) -> Result<u64, Failed>
         ensures tells { tells self.new ≡ tells self.old }
         ensures bound { IfOk result (λ len. len < 2 ^ 63) }
-        ensures length { tells self.old ≡ true → IfOk result (λ len. len ≡ length (seen self.old)) }
-        ensures seen { tells self.old ≡ true → seen self.new ≡ seen self.old }
+        ensures length { tells self.old ≡ true → IfOk result (λ len. len ≡ length (content self.old)) }
+        ensures content { tells self.old ≡ true → content self.new ≡ content self.old }
         ensures crash { tells self.old ≡ true → Leaves (may_leave self.new) (may_leave self.old) }
         ensures time { tells self.old ≡ true → Elapses moment left_since may_leave self.old self.new }
         ensures cause { HasCause (faults self.old) (faults self.new) result };
@@ -46,8 +46,8 @@ pub trait Disk {
     fn read(&mut self, at: u64, into: &mut [u8]) -> Result<usize, Failed>
         ensures tells { tells self.new ≡ tells self.old }
         ensures bound { IfOk result (λ count. count ≤ length into.new) }
-        ensures bytes { tells self.old ≡ true → IfOk result (λ count. Gives (seen self.old) at count into.new) }
-        ensures seen { tells self.old ≡ true → seen self.new ≡ seen self.old }
+        ensures bytes { tells self.old ≡ true → IfOk result (λ count. Gives (content self.old) at count into.new) }
+        ensures content { tells self.old ≡ true → content self.new ≡ content self.old }
         ensures crash { tells self.old ≡ true → Leaves (may_leave self.new) (may_leave self.old) }
         ensures time { tells self.old ≡ true → Elapses moment left_since may_leave self.old self.new }
         ensures cause { HasCause (faults self.old) (faults self.new) result };
@@ -56,13 +56,13 @@ pub trait Disk {
     /// end, no further than 2^63 - 1. Until a sync, a crash may leave any bytes in the range. A write that
     /// fails may have done any part of it.
     fn write_at(&mut self, at: u64, bytes: &[u8]) -> Result<(), Failed>
-        requires { tells self.old ≡ true → at ≤ length (seen self.old) }
+        requires { tells self.old ≡ true → at ≤ length (content self.old) }
         ensures tells { tells self.new ≡ tells self.old }
         ensures size { OnOk result (at + length bytes.now < 2 ^ 63) }
         ensures written { tells self.old ≡ true
-            → OnOk result (seen self.new ≡ overwritten (seen self.old) at bytes.now) }
+            → OnOk result (content self.new ≡ overwritten (content self.old) at bytes.now) }
         ensures failed { tells self.old ≡ true
-            → OnErr result (Torn at (length bytes.now) (seen self.old) (seen self.new)) }
+            → OnErr result (Torn at (length bytes.now) (content self.old) (content self.new)) }
         ensures crash { tells self.old ≡ true
             → Follows (Torn at (length bytes.now)) (may_leave self.old) (may_leave self.new) }
         ensures time { tells self.old ≡ true → Elapses moment left_since may_leave self.old self.new }
@@ -71,12 +71,12 @@ pub trait Disk {
     /// Cuts the file to its first `len` bytes, which is at most its length. Until a sync, a crash may
     /// leave it longer. A cut that fails may have done any part of it.
     fn cut(&mut self, len: u64) -> Result<(), Failed>
-        requires { tells self.old ≡ true → len ≤ length (seen self.old) }
+        requires { tells self.old ≡ true → len ≤ length (content self.old) }
         ensures tells { tells self.new ≡ tells self.old }
         ensures shorter { tells self.old ≡ true
-            → OnOk result (seen self.new ≡ take len (seen self.old)) }
+            → OnOk result (content self.new ≡ take len (content self.old)) }
         ensures failed { tells self.old ≡ true
-            → OnErr result (Shortened len (seen self.old) (seen self.new)) }
+            → OnErr result (Shortened len (content self.old) (content self.new)) }
         ensures crash { tells self.old ≡ true
             → Follows (Shortened len) (may_leave self.old) (may_leave self.new) }
         ensures time { tells self.old ≡ true → Elapses moment left_since may_leave self.old self.new }
@@ -87,14 +87,14 @@ pub trait Disk {
     fn sync(&mut self) -> Result<(), Failed>
         ensures tells { tells self.new ≡ tells self.old }
         ensures durable { tells self.old ≡ true
-            → OnOk result (LeavesOnly (may_leave self.new) (seen self.new)) }
-        ensures seen { tells self.old ≡ true → seen self.new ≡ seen self.old }
+            → OnOk result (LeavesOnly (may_leave self.new) (content self.new)) }
+        ensures content { tells self.old ≡ true → content self.new ≡ content self.old }
         ensures crash { tells self.old ≡ true → Leaves (may_leave self.new) (may_leave self.old) }
         ensures time { tells self.old ≡ true → Elapses moment left_since may_leave self.old self.new }
         ensures cause { HasCause (faults self.old) (faults self.new) result };
 
     /// The disk as it reads is one of its images.
-    ghost reads: { (disk : Self) → tells disk ≡ true → may_leave disk (seen disk) };
+    ghost reads: { (disk : Self) → tells disk ≡ true → may_leave disk (content disk) };
 
     /// This moment is one of those since an earlier one.
     ghost counts_now: { (disk : Self) (t : ℕ) (image : List ℕ) → tells disk ≡ true → t ≤ moment disk

@@ -1,6 +1,8 @@
 //! A disk over a real file. It counts each error, and tells nothing.
-ghost use Rattle.std.specs.Prelude.{◌≡◌, ◌+◌, ◌^◌, ◌<◌, ◌≤◌, false, ⊤, [], length, Ok, IfOk, OnOk};
-ghost use Rattle.exact_time.specs.Causes.{HasCause};
+ghost use Rattle.std.specs.Prelude.{◌≡◌, ◌+◌, ◌^◌, ◌<◌, ◌≤◌, false, ⊤, [], length, take, Ok, IfOk, OnOk};
+ghost use Rattle.std.specs.Io.KnownBytes.{Appends, Consumes, IsAtEnd};
+ghost use Rattle.exact_time.specs.Causes.{HasCause, Rose};
+ghost use Rattle.disk_model.specs.File.{SeeksThen};
 
 use crate::disk::Disk;
 use exact_time::Failed;
@@ -11,7 +13,8 @@ use std::path::Path;
 // The first length that a file can't have.
 const LIMIT: u64 = 1 << 63;
 
-/// A file, which is opened at the first call. Without a path every call fails.
+/// A file, which is opened at the first call. Without a path every call fails. After a `sync` that failed
+/// every further call fails too: a system may drop what was written and answer the next sync with success.
 #[derive(Drop)]
 pub struct FileDisk<R: Files> {
     files: R,
@@ -19,12 +22,17 @@ pub struct FileDisk<R: Files> {
     may_make: bool,
     file: Option<R::File>,
     faults: u64,
+    // Whether a sync failed.
+    spoiled: bool,
 }
 
 impl<R: Files> FileDisk<R> {
+    ghost use Rattle.disk_model.specs.File.{is_spoiled, Endures};
+
     /// The file at this path, which is made where there is none, if it may be made.
     pub fn new(files: R, path: Option<String>, may_make: bool) -> Self
-        ensures { ⟦<FileDisk<R> as Disk>⟧.faults result ≡ 0 }
+        ensures faults { ⟦<FileDisk<R> as Disk>⟧.faults result ≡ 0 }
+        ensures spoiled { is_spoiled result ≡ false }
     {
         FileDisk {
             files,
@@ -32,14 +40,19 @@ impl<R: Files> FileDisk<R> {
             may_make,
             file: None,
             faults: 0,
+            spoiled: false,
         }
     }
 
-    // The open file, for one call.
+    // The open file, for one call. A spoiled disk has none.
     fn take(&mut self) -> Result<R::File, Failed>
         ensures same { OnOk result (self.new.faults ≡ self.old.faults) }
+        ensures spoiled { Endures self.old.spoiled self.new.spoiled result }
         ensures cause { HasCause self.old.faults self.new.faults result }
     {
+        if self.spoiled {
+            return Err(self.fail());
+        }
         if let Some(file) = self.file.take() {
             return Ok(file);
         }
@@ -53,6 +66,7 @@ impl<R: Files> FileDisk<R> {
     // The answer of the call, with the file put back.
     fn answer<T>(&mut self, file: R::File, answer: io::Result<T>) -> Result<T, Failed>
         ensures value { IfOk result (λ value. answer ≡ Ok value) }
+        ensures spoiled { self.new.spoiled ≡ self.old.spoiled }
         ensures cause { HasCause self.old.faults self.new.faults result }
     {
         self.file = Some(file);
@@ -63,15 +77,33 @@ impl<R: Files> FileDisk<R> {
     fn count<T>(&mut self, answer: io::Result<T>) -> Result<T, Failed>
         ensures value { IfOk result (λ value. answer ≡ Ok value) }
         ensures same { OnOk result (self.new.faults ≡ self.old.faults) }
+        ensures spoiled { self.new.spoiled ≡ self.old.spoiled }
         ensures cause { HasCause self.old.faults self.new.faults result }
     {
         match answer {
             Ok(value) => Ok(value),
-            Err(_) => {
-                self.faults = self.faults.saturating_add(1);
-                Err(Failed)
-            }
+            Err(_) => Err(self.fail()),
         }
+    }
+
+    // Fails, and counts it.
+    fn fail(&mut self) -> Failed
+        ensures rises { Rose self.old.faults self.new.faults }
+        ensures no_fall { self.old.faults ≤ self.new.faults }
+        ensures spoiled { self.new.spoiled ≡ self.old.spoiled }
+    {
+        self.faults = self.faults.saturating_add(1);
+        Failed
+    }
+
+    // Syncs the open file.
+    fn sync_file(&mut self) -> Result<(), Failed>
+        ensures spoiled { Endures self.old.spoiled self.new.spoiled result }
+        ensures cause { HasCause self.old.faults self.new.faults result }
+    {
+        let file = self.take()?;
+        let answer = file.sync_all();
+        self.answer(file, answer)
     }
 }
 
@@ -111,10 +143,11 @@ fn length_of<F: OpenFile>(file: &F) -> io::Result<u64>
 }
 
 // Reads on until the slice is full or the file ends.
-fn read_on<F: Read + Seek>(file: &mut F, at: u64, into: &mut [u8]) -> io::Result<usize>
-    ensures { IfOk result (λ count. count ≤ length into.new) }
+fn read_on<F: Read>(file: &mut F, into: &mut [u8]) -> io::Result<usize>
+    ensures bound { IfOk result (λ count. count ≤ length into.new) }
+    ensures bytes { IfOk result (λ count. Consumes (F.remaining file.old) (F.remaining file.new) (take count into.new)) }
+    ensures end { IfOk result (λ count. count < length into.new → IsAtEnd (F.remaining file.new)) }
 {
-    file.seek(SeekFrom::Start(at))?;
     let mut done = 0;
     'full: while done < into.len() {
         let count = file.read(&mut into[done..])?;
@@ -126,8 +159,20 @@ fn read_on<F: Read + Seek>(file: &mut F, at: u64, into: &mut [u8]) -> io::Result
     Ok(done)
 }
 
+fn read_at<F: Read + Seek>(file: &mut F, at: u64, into: &mut [u8]) -> io::Result<usize>
+    ensures bound { IfOk result (λ count. count ≤ length into.new) }
+    ensures bytes { IfOk result (λ count. SeeksThen F.stream_position at file.old
+        (λ sought. Consumes (F.remaining sought) (F.remaining file.new) (take count into.new))) }
+    ensures end { IfOk result (λ count. count < length into.new → IsAtEnd (F.remaining file.new)) }
+{
+    file.seek(SeekFrom::Start(at))?;
+    read_on(file, into)
+}
+
 fn write_all_at<F: Write + Seek>(file: &mut F, at: u64, bytes: &[u8]) -> io::Result<()>
-    ensures { OnOk result (at + length bytes.now < 2 ^ 63) }
+    ensures size { OnOk result (at + length bytes.now < 2 ^ 63) }
+    ensures bytes { OnOk result (SeeksThen F.stream_position at file.old
+        (λ sought. Appends (F.contents sought) (F.contents file.new) bytes.now)) }
 {
     if at >= LIMIT || bytes.len() as u64 >= LIMIT - at {
         return Err(io::ErrorKind::FileTooLarge.into());
@@ -137,11 +182,12 @@ fn write_all_at<F: Write + Seek>(file: &mut F, at: u64, bytes: &[u8]) -> io::Res
 }
 
 impl<R: Files> Disk for FileDisk<R> {
+    ghost use Rattle.disk_model.specs.File.{is_spoiled, times_failed, Endures, Spoils};
     ghost use Rattle.disk_model.specs.Untold.{untold};
 
     ghost tells = { λ disk. false };
 
-    ghost seen = { λ disk. [] };
+    ghost content = { λ disk. [] };
 
     ghost may_leave = { λ disk image. ⊤ };
 
@@ -151,34 +197,52 @@ impl<R: Files> Disk for FileDisk<R> {
 
     ghost faults = { λ disk. disk.faults };
 
-    fn len(&mut self) -> Result<u64, Failed> {
+    fn len(&mut self) -> Result<u64, Failed>
+        ensures bound { IfOk result (λ len. len < 2 ^ 63) }
+        ensures spoiled { Endures (is_spoiled self.old) (is_spoiled self.new) result }
+        ensures cause { HasCause (times_failed self.old) (times_failed self.new) result }
+    {
         let file = self.take()?;
         let answer = length_of(&file);
         self.answer(file, answer)
     }
 
-    fn read(&mut self, at: u64, into: &mut [u8]) -> Result<usize, Failed> {
+    fn read(&mut self, at: u64, into: &mut [u8]) -> Result<usize, Failed>
+        ensures bound { IfOk result (λ count. count ≤ length into.new) }
+        ensures spoiled { Endures (is_spoiled self.old) (is_spoiled self.new) result }
+        ensures cause { HasCause (times_failed self.old) (times_failed self.new) result }
+    {
         let mut file = self.take()?;
-        let answer = read_on(&mut file, at, into);
+        let answer = read_at(&mut file, at, into);
         self.answer(file, answer)
     }
 
-    fn write_at(&mut self, at: u64, bytes: &[u8]) -> Result<(), Failed> {
+    fn write_at(&mut self, at: u64, bytes: &[u8]) -> Result<(), Failed>
+        ensures size { OnOk result (at + length bytes.now < 2 ^ 63) }
+        ensures spoiled { Endures (is_spoiled self.old) (is_spoiled self.new) result }
+        ensures cause { HasCause (times_failed self.old) (times_failed self.new) result }
+    {
         let mut file = self.take()?;
         let answer = write_all_at(&mut file, at, bytes);
         self.answer(file, answer)
     }
 
-    fn cut(&mut self, len: u64) -> Result<(), Failed> {
+    fn cut(&mut self, len: u64) -> Result<(), Failed>
+        ensures spoiled { Endures (is_spoiled self.old) (is_spoiled self.new) result }
+        ensures cause { HasCause (times_failed self.old) (times_failed self.new) result }
+    {
         let file = self.take()?;
         let answer = file.set_len(len);
         self.answer(file, answer)
     }
 
-    fn sync(&mut self) -> Result<(), Failed> {
-        let file = self.take()?;
-        let answer = file.sync_all();
-        self.answer(file, answer)
+    fn sync(&mut self) -> Result<(), Failed>
+        ensures spoiled { Spoils (is_spoiled self.old) (is_spoiled self.new) result }
+        ensures cause { HasCause (times_failed self.old) (times_failed self.new) result }
+    {
+        let result = self.sync_file();
+        self.spoiled = result.is_err();
+        result
     }
 
     ghost reads = { λ disk told. untold told };

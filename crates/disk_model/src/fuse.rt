@@ -3,12 +3,13 @@ ghost use Rattle.std.specs.Prelude.{◌≡◌, ℕ, ◌+◌, ◌-◌, ◌^◌, �
 ghost use Rattle.exact_time.specs.Causes.{HasCause};
 ghost use Rattle.disk_model.specs.Disk.{overwritten, Gives, Torn, Shortened, Follows, Leaves, LeavesOnly, Elapses};
 
+use crate::change::Change;
 use crate::disk::Disk;
 use crate::memory::MemoryDisk;
 use exact_time::Failed;
 
-/// Passes so many calls of a disk in memory, and then fails every call, as where the machine stops: no
-/// later call reaches the disk.
+/// Passes so many calls of a disk in memory, which go as they would without a fuse, and then fails every
+/// call, as where the machine stops: no later call reaches the disk.
 #[derive(Drop)]
 pub struct FuseDisk {
     disk: MemoryDisk,
@@ -46,15 +47,16 @@ impl FuseDisk {
 }
 
 impl Disk for FuseDisk {
-    ghost use Rattle.disk_model.specs.Memory.{seen_of, images_of, images_since, moment_of, faults_of};
+    ghost use Rattle.disk_model.specs.Memory.{content_of, images_now, images_since, moment_of, faults_of};
     ghost use Rattle.disk_model.specs.MemoryLaws.{reads_image, counts_this_moment, only_this_moment};
+    ghost use Rattle.disk_model.specs.Calls.{ReadsOnly, Writes, Makes};
     ghost use Rattle.disk_model.specs.Fuse.{disk_of, calls_left, Burns};
 
     ghost tells = { λ fuse. true };
 
-    ghost seen = { λ fuse. seen_of fuse.disk };
+    ghost content = { λ fuse. content_of fuse.disk };
 
-    ghost may_leave = { λ fuse. images_of fuse.disk };
+    ghost may_leave = { λ fuse. images_now fuse.disk };
 
     ghost moment = { λ fuse. moment_of fuse.disk };
 
@@ -63,12 +65,12 @@ impl Disk for FuseDisk {
     ghost faults = { λ fuse. faults_of fuse.disk };
 
     fn len(&mut self) -> Result<u64, Failed>
-        ensures fuse { Burns self.old self.new result }
+        ensures fuse { Burns ReadsOnly self.old self.new result }
         ensures bound { IfOk result (λ len. len < 2 ^ 63) }
-        ensures length { IfOk result (λ len. len ≡ length (seen_of (disk_of self.old))) }
-        ensures seen { seen_of (disk_of self.new) ≡ seen_of (disk_of self.old) }
-        ensures crash { Leaves (images_of (disk_of self.new)) (images_of (disk_of self.old)) }
-        ensures time { Elapses moment_of images_since images_of (disk_of self.old) (disk_of self.new) }
+        ensures length { IfOk result (λ len. len ≡ length (content_of (disk_of self.old))) }
+        ensures content { content_of (disk_of self.new) ≡ content_of (disk_of self.old) }
+        ensures crash { Leaves (images_now (disk_of self.new)) (images_now (disk_of self.old)) }
+        ensures time { Elapses moment_of images_since images_now (disk_of self.old) (disk_of self.new) }
         ensures cause { HasCause (faults_of (disk_of self.old)) (faults_of (disk_of self.new)) result }
     {
         if self.passes() {
@@ -79,11 +81,11 @@ impl Disk for FuseDisk {
     }
 
     fn read(&mut self, at: u64, into: &mut [u8]) -> Result<usize, Failed>
-        ensures fuse { Burns self.old self.new result }
-        ensures bytes { IfOk result (λ count. Gives (seen_of (disk_of self.old)) at count into.new) }
-        ensures seen { seen_of (disk_of self.new) ≡ seen_of (disk_of self.old) }
-        ensures crash { Leaves (images_of (disk_of self.new)) (images_of (disk_of self.old)) }
-        ensures time { Elapses moment_of images_since images_of (disk_of self.old) (disk_of self.new) }
+        ensures fuse { Burns ReadsOnly self.old self.new result }
+        ensures bytes { IfOk result (λ count. Gives (content_of (disk_of self.old)) at count into.new) }
+        ensures content { content_of (disk_of self.new) ≡ content_of (disk_of self.old) }
+        ensures crash { Leaves (images_now (disk_of self.new)) (images_now (disk_of self.old)) }
+        ensures time { Elapses moment_of images_since images_now (disk_of self.old) (disk_of self.new) }
         ensures cause { HasCause (faults_of (disk_of self.old)) (faults_of (disk_of self.new)) result }
     {
         if self.passes() {
@@ -94,13 +96,13 @@ impl Disk for FuseDisk {
     }
 
     fn write_at(&mut self, at: u64, bytes: &[u8]) -> Result<(), Failed>
-        requires { at ≤ length (seen_of (disk_of self.old)) }
-        ensures fuse { Burns self.old self.new result }
+        requires { at ≤ length (content_of (disk_of self.old)) }
+        ensures fuse { Burns (Writes at bytes.now) self.old self.new result }
         ensures size { OnOk result (at + length bytes.now < 2 ^ 63) }
-        ensures written { OnOk result (seen_of (disk_of self.new) ≡ overwritten (seen_of (disk_of self.old)) at bytes.now) }
-        ensures failed { OnErr result (Torn at (length bytes.now) (seen_of (disk_of self.old)) (seen_of (disk_of self.new))) }
-        ensures crash { Follows (Torn at (length bytes.now)) (images_of (disk_of self.old)) (images_of (disk_of self.new)) }
-        ensures time { Elapses moment_of images_since images_of (disk_of self.old) (disk_of self.new) }
+        ensures written { OnOk result (content_of (disk_of self.new) ≡ overwritten (content_of (disk_of self.old)) at bytes.now) }
+        ensures failed { OnErr result (Torn at (length bytes.now) (content_of (disk_of self.old)) (content_of (disk_of self.new))) }
+        ensures crash { Follows (Torn at (length bytes.now)) (images_now (disk_of self.old)) (images_now (disk_of self.new)) }
+        ensures time { Elapses moment_of images_since images_now (disk_of self.old) (disk_of self.new) }
         ensures cause { HasCause (faults_of (disk_of self.old)) (faults_of (disk_of self.new)) result }
     {
         if self.passes() {
@@ -111,12 +113,12 @@ impl Disk for FuseDisk {
     }
 
     fn cut(&mut self, len: u64) -> Result<(), Failed>
-        requires { len ≤ length (seen_of (disk_of self.old)) }
-        ensures fuse { Burns self.old self.new result }
-        ensures shorter { OnOk result (seen_of (disk_of self.new) ≡ take len (seen_of (disk_of self.old))) }
-        ensures failed { OnErr result (Shortened len (seen_of (disk_of self.old)) (seen_of (disk_of self.new))) }
-        ensures crash { Follows (Shortened len) (images_of (disk_of self.old)) (images_of (disk_of self.new)) }
-        ensures time { Elapses moment_of images_since images_of (disk_of self.old) (disk_of self.new) }
+        requires { len ≤ length (content_of (disk_of self.old)) }
+        ensures fuse { Burns (Makes (Change.Cut len)) self.old self.new result }
+        ensures shorter { OnOk result (content_of (disk_of self.new) ≡ take len (content_of (disk_of self.old))) }
+        ensures failed { OnErr result (Shortened len (content_of (disk_of self.old)) (content_of (disk_of self.new))) }
+        ensures crash { Follows (Shortened len) (images_now (disk_of self.old)) (images_now (disk_of self.new)) }
+        ensures time { Elapses moment_of images_since images_now (disk_of self.old) (disk_of self.new) }
         ensures cause { HasCause (faults_of (disk_of self.old)) (faults_of (disk_of self.new)) result }
     {
         if self.passes() {
@@ -127,11 +129,11 @@ impl Disk for FuseDisk {
     }
 
     fn sync(&mut self) -> Result<(), Failed>
-        ensures fuse { Burns self.old self.new result }
-        ensures durable { OnOk result (LeavesOnly (images_of (disk_of self.new)) (seen_of (disk_of self.new))) }
-        ensures seen { seen_of (disk_of self.new) ≡ seen_of (disk_of self.old) }
-        ensures crash { Leaves (images_of (disk_of self.new)) (images_of (disk_of self.old)) }
-        ensures time { Elapses moment_of images_since images_of (disk_of self.old) (disk_of self.new) }
+        ensures fuse { Burns (Makes Change.Synced) self.old self.new result }
+        ensures durable { OnOk result (LeavesOnly (images_now (disk_of self.new)) (content_of (disk_of self.new))) }
+        ensures content { content_of (disk_of self.new) ≡ content_of (disk_of self.old) }
+        ensures crash { Leaves (images_now (disk_of self.new)) (images_now (disk_of self.old)) }
+        ensures time { Elapses moment_of images_since images_now (disk_of self.old) (disk_of self.new) }
         ensures cause { HasCause (faults_of (disk_of self.old)) (faults_of (disk_of self.new)) result }
     {
         if self.passes() {

@@ -18,14 +18,14 @@ pub fn add_and_mark<D: Disk>(
     at: u64,
     byte: u8,
 ) -> Result<(), Failed>
-    requires end { D.tells disk.old ≡ true → end ≡ length (D.seen disk.old) }
+    requires end { D.tells disk.old ≡ true → end ≡ length (D.content disk.old) }
     requires synced { D.tells disk.old ≡ true
-        → LeavesOnly (D.may_leave disk.old) (D.seen disk.old) }
+        → LeavesOnly (D.may_leave disk.old) (D.content disk.old) }
     requires among { (end ≤ at) × (at < end + length bytes.now) }
     ensures any_moment { D.tells disk.old ≡ true
-        → AlwaysLeaves D.moment D.left_since disk.old disk.new (IsStaged (D.seen disk.old) bytes.now at) }
+        → AlwaysLeaves D.moment D.left_since disk.old disk.new (IsStaged (D.content disk.old) bytes.now at) }
     ensures done { D.tells disk.old ≡ true
-        → OnOk result (LeavesOnly (D.may_leave disk.new) (overwritten (D.seen disk.old ++ bytes.now) at (byte ∷ []))) }
+        → OnOk result (LeavesOnly (D.may_leave disk.new) (overwritten (D.content disk.old ++ bytes.now) at (byte ∷ []))) }
     ensures cause { HasCause (D.faults disk.old) (D.faults disk.new) result }
 {
     write_through(disk, end, bytes)?;

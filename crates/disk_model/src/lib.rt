@@ -13,8 +13,10 @@
 //! the last sync, the least and the greatest length since, and the bytes written since. [`MemoryDisk`] is
 //! that definition (`specs/Changes.antt`, from the list of all changes), and is proved to be a [`Disk`];
 //! in the other direction `proofs/Leaving.antt` brings the definition to every disk by the trait's
-//! clauses alone. [`FuseDisk`] stops a disk in memory after so many calls. [`FileDisk`] is a real file,
-//! which counts its errors and tells nothing.
+//! clauses alone. What each call of a [`MemoryDisk`] leaves, when it fails and what it counts is a record
+//! of `specs/Calls.antt`. [`FuseDisk`] passes so many calls of a disk in memory, each by the same record,
+//! and then fails. [`FileDisk`] is a real file, which counts its errors and tells nothing; after a sync
+//! that failed it fails every call.
 #![tactic(auto)]
 
 mod change;
@@ -29,6 +31,7 @@ mod replay;
 mod tests;
 mod through;
 
+pub use change::Change;
 pub use choice::Choice;
 pub use disk::Disk;
 pub use file::FileDisk;

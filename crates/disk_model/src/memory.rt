@@ -1,145 +1,119 @@
 //! A disk in memory, which keeps each image that it had.
-ghost use Rattle.std.specs.Prelude.{◌≡◌, ◌++◌, ◌∷◌, [], ◌<◌, ◌≤◌, ◌^◌, ◌+◌, ◌-◌, ◌⊎◌, ℕ, List, true, false, Bool, take, length, IfOk, OnOk, OnErr, min, IsErr, IsTrue, ◌↔◌};
+ghost use Rattle.std.specs.Prelude.{◌≡◌, ◌++◌, ◌∷◌, [], ◌<◌, ◌≤◌, ◌^◌, ◌+◌, ◌-◌, ◌⊎◌, ℕ, List, true, false, Bool, take, length, vec_len, vec_capacity, IfOk, OnOk, OnErr, min, IsErr, IsTrue, ◌↔◌};
 ghost use Rattle.exact_time.specs.Causes.{HasCause, Rose};
 ghost use Rattle.disk_model.specs.Disk.{overwritten, Gives, Torn, Shortened, Follows, Leaves, LeavesOnly, Elapses};
-ghost use Rattle.disk_model.specs.Sound.{IsKept, file_of};
+ghost use Rattle.disk_model.specs.Sound.{IsReplayed, HasRoom, waiting};
 
 use crate::change::{Change, Step};
 use crate::choice::Choice;
 use crate::disk::Disk;
-use crate::replay::{file_at_sync, fill_free, put};
+use crate::replay::{fill_free, put};
 use exact_time::{Bytes, Failed, Many, OutOfMemory};
-use std::alloc::{AllocError, Global};
+use std::alloc::Global;
+use std::snapshot::Snapshot;
 
 /// A disk in memory, which fails at the calls numbered in `fails`, from 1, and where a growth is
-/// refused. It keeps what each call since it was made did to it.
+/// refused. It keeps what each call since it was made did to it (`specs/Calls.antt`).
 #[derive(Drop)]
 pub struct MemoryDisk {
     alloc: Global,
     // The file as it was given.
-    first: Bytes,
-    // The file as it reads, where anything was done to it.
-    current: Option<Vec<u8>>,
+    first: Snapshot<Bytes>,
+    // The file as it reads.
+    current: Vec<u8>,
+    // The file at the last sync.
+    base: Bytes,
+    // What was done to the file, with room for what the calls that are still to fail will leave.
     steps: Vec<Step>,
-    fails: Many<u64>,
+    // The place in the steps behind the last sync.
+    since: usize,
+    fails: Vec<u64>,
     calls: u64,
     moment: u64,
     faults: u64,
-    ghost kept: { IsKept first (file_of first current) steps.items moment },
-}
-
-// Writes over what is there, of the first file where nothing was done to it yet.
-fn overwrite(
-    alloc: Global,
-    first: &[u8],
-    current: &mut Option<Vec<u8>>,
-    at: usize,
-    bytes: &[u8],
-) -> Result<(), AllocError>
-    requires { at ≤ length (file_of first.now current.old) }
-    ensures ok { OnOk result (file_of first.now current.new ≡ overwritten (file_of first.now current.old) at bytes.now) }
-    ensures err { OnErr result (file_of first.now current.new ≡ file_of first.now current.old) }
-{
-    match current {
-        Some(file) => put(file, at, bytes)?,
-        None => {
-            let mut file = first.to_vec(alloc)?;
-            put(&mut file, at, bytes)?;
-            *current = Some(file);
-        }
-    }
-    Ok(())
-}
-
-// Cuts the file, or leaves it as it was.
-fn truncate(
-    alloc: Global,
-    first: &[u8],
-    current: &mut Option<Vec<u8>>,
-    len: usize,
-) -> Result<(), AllocError>
-    ensures ok { OnOk result (file_of first.now current.new ≡ take len (file_of first.now current.old)) }
-    ensures err { OnErr result (file_of first.now current.new ≡ file_of first.now current.old) }
-{
-    match current {
-        Some(file) => file.truncate(len),
-        None => {
-            let mut file = first.to_vec(alloc)?;
-            file.truncate(len);
-            *current = Some(file);
-        }
-    }
-    Ok(())
+    ghost kept: { IsReplayed first.value current.items base steps.items since moment },
+    ghost room: { HasRoom 0 steps calls fails.items },
 }
 
 impl MemoryDisk {
-    ghost use Rattle.disk_model.specs.Choices.{IsChosen};
-    ghost use Rattle.disk_model.specs.Memory.{seen_of, state_of, calls_of, fails_of, is_among, IsSame, IsChanged, SameCount};
+    ghost use Rattle.disk_model.specs.Choices.{IsImageFor};
+    ghost use Rattle.disk_model.specs.Memory.{made_with, changes_of, content_of, state_of, calls_of, fails_of, IsSame, IsChanged, SameCount};
+    ghost use Rattle.disk_model.specs.Calls.{is_to_fail, one_more};
 
-    /// A disk with this file, all of it synced, which fails at these calls.
-    pub fn new(alloc: Global, bytes: Bytes, fails: Many<u64>) -> Self
-        ensures tells { ⟦<MemoryDisk as Disk>⟧.tells result ≡ true }
-        ensures seen { ⟦<MemoryDisk as Disk>⟧.seen result ≡ bytes }
-        ensures synced { LeavesOnly (⟦<MemoryDisk as Disk>⟧.may_leave result) bytes }
-        ensures faults { ⟦<MemoryDisk as Disk>⟧.faults result ≡ 0 }
-        ensures calls { calls_of result ≡ 0 }
-        ensures fails { fails_of result ≡ fails }
+    /// A disk with this file, all of it synced, which fails at these calls. It takes the room for what
+    /// these will leave.
+    pub fn new(alloc: Global, bytes: Bytes, fails: Many<u64>) -> Result<Self, OutOfMemory>
+        ensures tells { IfOk result (λ disk. ⟦<MemoryDisk as Disk>⟧.tells disk ≡ true) }
+        ensures content { IfOk result (λ disk. ⟦<MemoryDisk as Disk>⟧.content disk ≡ bytes) }
+        ensures synced { IfOk result (λ disk. LeavesOnly (⟦<MemoryDisk as Disk>⟧.may_leave disk) bytes) }
+        ensures faults { IfOk result (λ disk. ⟦<MemoryDisk as Disk>⟧.faults disk ≡ 0) }
+        ensures calls { IfOk result (λ disk. calls_of disk ≡ 0) }
+        ensures fails { IfOk result (λ disk. fails_of disk ≡ fails) }
+        ensures first { IfOk result (λ disk. made_with disk ≡ bytes) }
+        ensures changes { IfOk result (λ disk. changes_of disk ≡ []) }
     {
-        MemoryDisk {
+        let current = bytes.as_slice().to_vec(alloc)?;
+        let steps = Vec::with_capacity(alloc, fails.len())?;
+        Ok(MemoryDisk {
             alloc,
-            first: bytes,
-            current: None,
-            steps: Vec::new(alloc),
-            fails,
+            first: Snapshot::of(&bytes),
+            current,
+            base: bytes,
+            steps,
+            since: 0,
+            fails: fails.into_vec(),
             calls: 0,
             moment: 0,
             faults: 0,
-        }
+        })
     }
 
-    /// An image of the present moment, copied.
+    /// An image of the present moment, copied. It costs no more than the file and the changes since the
+    /// last sync.
     pub fn image(&self, choice: Choice) -> Result<Bytes, OutOfMemory>
         ensures image { IfOk result (⟦<MemoryDisk as Disk>⟧.may_leave self.now) }
-        ensures choice { IfOk result (IsChosen (state_of self.now) choice) }
+        ensures choice { IfOk result (IsImageFor (state_of self.now) choice) }
     {
         let mut image = Bytes::new(self.alloc);
         match choice {
-            Choice::Old => {
-                let base = file_at_sync(self.alloc, self.first.as_slice(), &self.steps)?;
-                image.extend(&base)?;
-            }
-            Choice::New => image.extend(self.file())?,
+            Choice::Old => image.extend(self.base.as_slice())?,
+            Choice::New => image.extend(&self.current)?,
             Choice::Fill(byte) => {
-                let mut copy = self.file().to_vec(self.alloc)?;
-                let first = self.first.as_slice();
-                fill_free(self.alloc, first, &self.steps, self.file(), byte, &mut copy)?;
+                let mut copy = self.current.to_vec(self.alloc)?;
+                let base = self.base.as_slice();
+                fill_free(
+                    base,
+                    &self.steps[self.since..],
+                    &self.current,
+                    byte,
+                    &mut copy,
+                );
                 image.extend(&copy)?;
             }
         }
         Ok(image)
     }
 
-    // The file as it reads.
-    fn file(&self) -> &[u8]
-        ensures { result.now ≡ seen_of self.now }
+    // How much room one more step takes, with that of the calls that are still to fail.
+    fn room(&self) -> usize
+        ensures { waiting self.now.calls self.now.fails.items < result }
     {
-        match &self.current {
-            Some(current) => current.as_slice(),
-            None => self.first.as_slice(),
-        }
+        self.fails.len() + 1
     }
 
-    // Counts a call, and says whether it is one of those that fail.
+    // Counts a call, and says whether it is one of those that fail: its step has room then.
     fn is_failing(&mut self) -> bool
         ensures same { IsSame self.old self.new }
         ensures moment { self.new.moment ≡ self.old.moment }
         ensures faults { self.new.faults ≡ self.old.faults }
-        ensures counted { self.new.calls ≡ min (self.old.calls + 1) (2 ^ 64 - 1) }
-        ensures numbers { self.new.fails ≡ self.old.fails }
-        ensures numbered { result ≡ is_among self.new.calls self.old.fails }
+        ensures counted { calls_of self.new ≡ one_more (calls_of self.old) }
+        ensures numbers { fails_of self.new ≡ fails_of self.old }
+        ensures numbered { result ≡ is_to_fail self.old }
+        ensures room { IsTrue result → HasRoom 1 self.new.steps self.new.calls self.new.fails.items }
     {
+        let has_number = self.calls < u64::MAX;
         self.calls = self.calls.saturating_add(1);
-        self.fails.as_slice().contains(&self.calls)
+        has_number && self.fails.contains(&self.calls)
     }
 
     // Lets time go on.
@@ -156,7 +130,7 @@ impl MemoryDisk {
     pub(crate) fn refuse(&mut self) -> Failed
         ensures same { IsSame self.old self.new }
         ensures rises { Rose self.old.moment self.new.moment }
-        ensures faults { Rose self.old.faults self.new.faults }
+        ensures faults { self.new.faults ≡ one_more self.old.faults }
         ensures no_fall { self.old.faults ≤ self.new.faults }
         ensures count { SameCount self.old self.new }
     {
@@ -167,7 +141,7 @@ impl MemoryDisk {
 
     // Writes, and notes it.
     fn write(&mut self, at: usize, bytes: &[u8]) -> Result<(), OutOfMemory>
-        requires inside { at ≤ length (seen_of self.old) }
+        requires inside { at ≤ length (content_of self.old) }
         requires time { self.old.moment < 2 ^ 64 - 1 }
         ensures ok { OnOk result (IsChanged (Change.Wrote at bytes.now) self.old self.new) }
         ensures err { OnErr result (IsSame self.old self.new) }
@@ -176,14 +150,9 @@ impl MemoryDisk {
     {
         let mut written = Bytes::new(self.alloc);
         written.extend(bytes)?;
-        self.steps.reserve(1)?;
-        overwrite(
-            self.alloc,
-            self.first.as_slice(),
-            &mut self.current,
-            at,
-            bytes,
-        )?;
+        let room = self.room();
+        self.steps.reserve(room)?;
+        put(&mut self.current, at, bytes)?;
         self.moment += 1;
         let change = Change::Wrote { at, bytes: written };
         self.steps.push_reserved(Step {
@@ -193,35 +162,34 @@ impl MemoryDisk {
         Ok(())
     }
 
-    // Notes a write of so many bytes that failed.
-    fn tear(&mut self, at: usize, len: usize) -> Result<(), OutOfMemory>
-        requires inside { at ≤ length (seen_of self.old) }
+    // Notes a write of so many bytes that failed, for which there is room.
+    fn tear(&mut self, at: usize, len: usize)
+        requires inside { at ≤ length (content_of self.old) }
         requires time { self.old.moment < 2 ^ 64 - 1 }
-        ensures ok { OnOk result (IsChanged (Change.Tore at len) self.old self.new) }
-        ensures err { OnErr result (IsSame self.old self.new) }
+        requires room { HasRoom 1 self.old.steps self.old.calls self.old.fails.items }
+        ensures torn { IsChanged (Change.Tore at len) self.old self.new }
         ensures faults { self.new.faults ≡ self.old.faults }
         ensures count { SameCount self.old self.new }
     {
-        self.steps.reserve(1)?;
         self.moment += 1;
         self.steps.push_reserved(Step {
             change: Change::Tore { at, len },
             moment: self.moment,
         });
-        Ok(())
     }
 
     // Cuts the file, and notes it.
     fn shorten(&mut self, len: usize) -> Result<(), OutOfMemory>
-        requires inside { len ≤ length (seen_of self.old) }
+        requires inside { len ≤ length (content_of self.old) }
         requires time { self.old.moment < 2 ^ 64 - 1 }
         ensures ok { OnOk result (IsChanged (Change.Cut len) self.old self.new) }
         ensures err { OnErr result (IsSame self.old self.new) }
         ensures faults { self.new.faults ≡ self.old.faults }
         ensures count { SameCount self.old self.new }
     {
-        self.steps.reserve(1)?;
-        truncate(self.alloc, self.first.as_slice(), &mut self.current, len)?;
+        let room = self.room();
+        self.steps.reserve(room)?;
+        self.current.truncate(len);
         self.moment += 1;
         self.steps.push_reserved(Step {
             change: Change::Cut { len },
@@ -230,7 +198,7 @@ impl MemoryDisk {
         Ok(())
     }
 
-    // Notes that the file is synced.
+    // Keeps the file as it reads as that of the last sync, and notes it.
     fn settle(&mut self) -> Result<(), OutOfMemory>
         requires { self.old.moment < 2 ^ 64 - 1 }
         ensures ok { OnOk result (IsChanged Change.Synced self.old self.new) }
@@ -238,12 +206,17 @@ impl MemoryDisk {
         ensures faults { self.new.faults ≡ self.old.faults }
         ensures count { SameCount self.old self.new }
     {
-        self.steps.reserve(1)?;
+        let mut base = Bytes::new(self.alloc);
+        base.extend(&self.current)?;
+        let room = self.room();
+        self.steps.reserve(room)?;
+        self.base = base;
         self.moment += 1;
         self.steps.push_reserved(Step {
             change: Change::Synced,
             moment: self.moment,
         });
+        self.since = self.steps.len();
         Ok(())
     }
 }
@@ -257,14 +230,15 @@ fn is_too_long(at: u64, len: usize) -> bool
 }
 
 impl Disk for MemoryDisk {
-    ghost use Rattle.disk_model.specs.Memory.{seen_of, images_of, images_since, moment_of, faults_of, Counts};
+    ghost use Rattle.disk_model.specs.Memory.{content_of, images_now, images_since, moment_of, faults_of};
+    ghost use Rattle.disk_model.specs.Calls.{ReadsOnly, Writes, Makes};
     ghost use Rattle.disk_model.specs.MemoryLaws.{reads_image, counts_this_moment, only_this_moment};
 
     ghost tells = { λ disk. true };
 
-    ghost seen = { seen_of };
+    ghost content = { content_of };
 
-    ghost may_leave = { images_of };
+    ghost may_leave = { images_now };
 
     ghost moment = { moment_of };
 
@@ -273,46 +247,46 @@ impl Disk for MemoryDisk {
     ghost faults = { faults_of };
 
     fn len(&mut self) -> Result<u64, Failed>
-        ensures count { Counts self.old self.new result }
+        ensures call { ReadsOnly self.old self.new result }
         ensures bound { IfOk result (λ len. len < 2 ^ 63) }
-        ensures length { IfOk result (λ len. len ≡ length (seen_of self.old)) }
-        ensures seen { seen_of self.new ≡ seen_of self.old }
-        ensures crash { Leaves (images_of self.new) (images_of self.old) }
-        ensures time { Elapses moment_of images_since images_of self.old self.new }
+        ensures length { IfOk result (λ len. len ≡ length (content_of self.old)) }
+        ensures content { content_of self.new ≡ content_of self.old }
+        ensures crash { Leaves (images_now self.new) (images_now self.old) }
+        ensures time { Elapses moment_of images_since images_now self.old self.new }
         ensures cause { HasCause (faults_of self.old) (faults_of self.new) result }
     {
-        let len = self.file().len() as u64;
-        if self.is_failing() || len >= 1 << 63 {
-            return Err(self.refuse());
+        if self.is_failing() {
+            Err(self.refuse())
+        } else {
+            self.pass();
+            Ok(self.current.len() as u64)
         }
-        self.pass();
-        Ok(len)
     }
 
     fn read(&mut self, at: u64, into: &mut [u8]) -> Result<usize, Failed>
-        ensures count { Counts self.old self.new result }
-        ensures bytes { IfOk result (λ count. Gives (seen_of self.old) at count into.new) }
-        ensures seen { seen_of self.new ≡ seen_of self.old }
-        ensures crash { Leaves (images_of self.new) (images_of self.old) }
-        ensures time { Elapses moment_of images_since images_of self.old self.new }
+        ensures call { ReadsOnly self.old self.new result }
+        ensures bytes { IfOk result (λ count. Gives (content_of self.old) at count into.new) }
+        ensures content { content_of self.new ≡ content_of self.old }
+        ensures crash { Leaves (images_now self.new) (images_now self.old) }
+        ensures time { Elapses moment_of images_since images_now self.old self.new }
         ensures cause { HasCause (faults_of self.old) (faults_of self.new) result }
     {
         if self.is_failing() {
             return Err(self.refuse());
         }
-        let count = give(self.file(), at, into);
+        let count = give(&self.current, at, into);
         self.pass();
         Ok(count)
     }
 
     fn write_at(&mut self, at: u64, bytes: &[u8]) -> Result<(), Failed>
-        requires { at ≤ length (seen_of self.old) }
-        ensures count { Counts self.old self.new result }
+        requires { at ≤ length (content_of self.old) }
+        ensures call { Writes at bytes.now self.old self.new result }
         ensures size { OnOk result (at + length bytes.now < 2 ^ 63) }
-        ensures written { OnOk result (seen_of self.new ≡ overwritten (seen_of self.old) at bytes.now) }
-        ensures failed { OnErr result (Torn at (length bytes.now) (seen_of self.old) (seen_of self.new)) }
-        ensures crash { Follows (Torn at (length bytes.now)) (images_of self.old) (images_of self.new) }
-        ensures time { Elapses moment_of images_since images_of self.old self.new }
+        ensures written { OnOk result (content_of self.new ≡ overwritten (content_of self.old) at bytes.now) }
+        ensures failed { OnErr result (Torn at (length bytes.now) (content_of self.old) (content_of self.new)) }
+        ensures crash { Follows (Torn at (length bytes.now)) (images_now self.old) (images_now self.new) }
+        ensures time { Elapses moment_of images_since images_now self.old self.new }
         ensures cause { HasCause (faults_of self.old) (faults_of self.new) result }
     {
         let is_failing = self.is_failing();
@@ -320,7 +294,7 @@ impl Disk for MemoryDisk {
             return Err(self.refuse());
         }
         if is_failing {
-            let _ = self.tear(at as usize, bytes.len());
+            self.tear(at as usize, bytes.len());
             return Err(self.refuse());
         }
         match self.write(at as usize, bytes) {
@@ -330,12 +304,12 @@ impl Disk for MemoryDisk {
     }
 
     fn cut(&mut self, len: u64) -> Result<(), Failed>
-        requires { len ≤ length (seen_of self.old) }
-        ensures count { Counts self.old self.new result }
-        ensures shorter { OnOk result (seen_of self.new ≡ take len (seen_of self.old)) }
-        ensures failed { OnErr result (Shortened len (seen_of self.old) (seen_of self.new)) }
-        ensures crash { Follows (Shortened len) (images_of self.old) (images_of self.new) }
-        ensures time { Elapses moment_of images_since images_of self.old self.new }
+        requires { len ≤ length (content_of self.old) }
+        ensures call { Makes (Change.Cut len) self.old self.new result }
+        ensures shorter { OnOk result (content_of self.new ≡ take len (content_of self.old)) }
+        ensures failed { OnErr result (Shortened len (content_of self.old) (content_of self.new)) }
+        ensures crash { Follows (Shortened len) (images_now self.old) (images_now self.new) }
+        ensures time { Elapses moment_of images_since images_now self.old self.new }
         ensures cause { HasCause (faults_of self.old) (faults_of self.new) result }
     {
         if self.is_failing() || self.moment == u64::MAX {
@@ -348,11 +322,11 @@ impl Disk for MemoryDisk {
     }
 
     fn sync(&mut self) -> Result<(), Failed>
-        ensures count { Counts self.old self.new result }
-        ensures durable { OnOk result (LeavesOnly (images_of self.new) (seen_of self.new)) }
-        ensures seen { seen_of self.new ≡ seen_of self.old }
-        ensures crash { Leaves (images_of self.new) (images_of self.old) }
-        ensures time { Elapses moment_of images_since images_of self.old self.new }
+        ensures call { Makes Change.Synced self.old self.new result }
+        ensures durable { OnOk result (LeavesOnly (images_now self.new) (content_of self.new)) }
+        ensures content { content_of self.new ≡ content_of self.old }
+        ensures crash { Leaves (images_now self.new) (images_now self.old) }
+        ensures time { Elapses moment_of images_since images_now self.old self.new }
         ensures cause { HasCause (faults_of self.old) (faults_of self.new) result }
     {
         if self.is_failing() || self.moment == u64::MAX {

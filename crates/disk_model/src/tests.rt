@@ -11,7 +11,7 @@ use std::test::Fail;
 
 // A synced disk with this file, which fails at these calls.
 fn disk_of(alloc: Global, file: &[u8], fails: &[u64]) -> Result<MemoryDisk, OutOfMemory>
-    ensures seen { IfOk result (λ disk. ⟦<MemoryDisk as Disk>⟧.seen disk ≡ file.now) }
+    ensures content { IfOk result (λ disk. ⟦<MemoryDisk as Disk>⟧.content disk ≡ file.now) }
     ensures synced { IfOk result (λ disk. LeavesOnly (⟦<MemoryDisk as Disk>⟧.may_leave disk) file.now) }
 {
     let mut bytes = Bytes::new(alloc);
@@ -20,7 +20,7 @@ fn disk_of(alloc: Global, file: &[u8], fails: &[u64]) -> Result<MemoryDisk, OutO
     for call in fails {
         numbers.push(*call)?;
     }
-    Ok(MemoryDisk::new(alloc, bytes, numbers))
+    MemoryDisk::new(alloc, bytes, numbers)
 }
 
 #[derive(Clone, Copy)]

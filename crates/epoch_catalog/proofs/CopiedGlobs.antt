@@ -7,11 +7,11 @@ use Rattle.epochs.specs.declared.key.Key.TheVariants.{Rst, Grt}
 use Rattle.epochs.specs.declared.line.Restriction.{Restriction}
 use Rattle.epochs.specs.declared.line.Grant.{Grant}
 use Rattle.epochs.specs.declared.parts.Glob.{Glob}
-use Rattle.epochs.specs.Entries.{IsEntry}
+use Rattle.epochs.specs.Spellable.{IsSpellable}
 use Rattle.epochs.specs.Keys.{deletion_line}
 use Rattle.epochs.specs.Kinds.{Text}
 use Rattle.epochs.specs.Values.{restriction_line, grant_line}
-use Rattle.epochs.proofs.EntryWord.{entry_has}
+use Rattle.epochs.proofs.SpellableWord.{spellable_has}
 
 abbrev pub glob_of : Text → List Text → Glob
 glob_of text list = record { text = text; list = list }
@@ -28,20 +28,20 @@ pub record AreRead (network station location channel : Glob) : Type 0 where
 
 pub of_restriction : (r : Restriction) → AreRead r.network r.station r.location r.channel
 of_restriction r =
-    let v = (entry_has (restriction_line r.network r.station r.location r.channel r.start r.end) r.entry).values_are in
+    let v = (spellable_has (restriction_line r.network r.station r.location r.channel r.start r.end) r.spellable).values_are in
     record { network_is = v.0; station_is = v.1.0; location_is = v.1.1.0; channel_is = v.1.1.1.0 }
 
 pub of_grant : (g : Grant) → AreRead g.network g.station g.location g.channel
 of_grant g =
-    let v = (entry_has (grant_line g.user g.network g.station g.location g.channel g.start g.end) g.entry).values_are in
+    let v = (spellable_has (grant_line g.user g.network g.station g.location g.channel g.start g.end) g.spellable).values_are in
     record { network_is = v.1.0; station_is = v.1.1.0; location_is = v.1.1.1.0; channel_is = v.1.1.1.1.0 }
 
-pub of_restriction_key : (network station location channel : Glob) (start : Moment) → IsEntry (deletion_line (Rst network station location channel start)) → AreRead network station location channel
+pub of_restriction_key : (network station location channel : Glob) (start : Moment) → IsSpellable (deletion_line (Rst network station location channel start)) → AreRead network station location channel
 of_restriction_key network station location channel start h =
-    let v = (entry_has (deletion_line (Rst network station location channel start)) h).values_are in
+    let v = (spellable_has (deletion_line (Rst network station location channel start)) h).values_are in
     record { network_is = v.0; station_is = v.1.0; location_is = v.1.1.0; channel_is = v.1.1.1.0 }
 
-pub of_grant_key : (user : Text) (network station location channel : Glob) (start : Moment) → IsEntry (deletion_line (Grt user network station location channel start)) → AreRead network station location channel
+pub of_grant_key : (user : Text) (network station location channel : Glob) (start : Moment) → IsSpellable (deletion_line (Grt user network station location channel start)) → AreRead network station location channel
 of_grant_key user network station location channel start h =
-    let v = (entry_has (deletion_line (Grt user network station location channel start)) h).values_are in
+    let v = (spellable_has (deletion_line (Grt user network station location channel start)) h).values_are in
     record { network_is = v.1.0; station_is = v.1.1.0; location_is = v.1.1.1.0; channel_is = v.1.1.1.1.0 }

@@ -8,16 +8,16 @@ use Rattle.std.specs.Cmp.{IsTotalOrder}
 use Rattle.std.specs.Str.{bytes_eq}
 use Rattle.std.proofs.lemmas.Cmp.{then_total, nat_cmp_total, nat_list_cmp_total, upto, same_from_slice_cmp}
 use Rattle.std.proofs.lemmas.Bool.Decides.{nat_tests}
-use Rattle.epochs.specs.declared.kinds.Kind.{Kind}
+use Rattle.epochs.specs.declared.kinds.LineKind.{LineKind}
 use Rattle.epochs.specs.declared.kinds.Head.{Head}
 use Rattle.epochs.specs.declared.kinds.Head.TheVariants.{Says, Deletes}
 use Rattle.epochs.specs.Fields.{Value}
 use Rattle.epochs.specs.Kinds.{Text}
-use Rattle.epochs.specs.Lines.{Entry, entry}
+use Rattle.epochs.specs.Lines.{LineValues, line_values}
 use Rattle.epoch_catalog.specs.declared.families.Family.{Family}
 use Rattle.epoch_catalog.specs.declared.families.Family.TheVariants as family
-use Rattle.epoch_rules.specs.KeyOrder.{KeyParts, parts_of, parts_cmp, text_cmp, rank_of}
-use Rattle.epoch_rules.specs.LiveLines.{is_statement, says}
+use Rattle.epoch_rules.specs.KeyOrder.{KeyParts, key_parts_of, parts_cmp, text_cmp, rank_of}
+use Rattle.epoch_rules.specs.LiveLines.{is_statement, is_said}
 use Rattle.epoch_catalog.specs.Families.{is_in, family_place}
 use Rattle.epoch_rules.proofs.Orders.{total_on}
 
@@ -153,20 +153,20 @@ and_joined : (a b c : Bool) → (a && (b && c)) ≡ (a && b && c)
 and_joined true b c = refl
 and_joined false b c = refl
 
-in_says : (f : Family) (kind : Kind) (values : List Value) → is_in f (entry (Says kind) values) ≡ is_eq (family_place f (parts_of (entry (Says kind) values)))
+in_says : (f : Family) (kind : LineKind) (values : List Value) → is_in f (line_values (Says kind) values) ≡ is_eq (family_place f (key_parts_of (line_values (Says kind) values)))
 in_says family.Networks kind values = sym (same_rank _ _)
 in_says family.Stations kind values = sym (same_rank _ _)
 in_says family.Channels kind values = sym (same_rank _ _)
-in_says (family.StationsOf network) kind values = sym (both_eq _ _ ∙ (λ i. same_rank (rank_of kind) 1 i && same_text (parts_of (entry (Says kind) values)).first network i))
+in_says (family.StationsOf network) kind values = sym (both_eq _ _ ∙ (λ i. same_rank (rank_of kind) 1 i && same_text (key_parts_of (line_values (Says kind) values)).first network i))
 in_says (family.ChannelsOf network station) kind values =
     sym (both_eq _ _
-    ∙ (λ i. same_rank (rank_of kind) 2 i && both_eq (text_cmp (parts_of (entry (Says kind) values)).first network) (text_cmp (parts_of (entry (Says kind) values)).second station) i)
-    ∙ (λ i. (rank_of kind == 2) && (same_text (parts_of (entry (Says kind) values)).first network i && same_text (parts_of (entry (Says kind) values)).second station i))
+    ∙ (λ i. same_rank (rank_of kind) 2 i && both_eq (text_cmp (key_parts_of (line_values (Says kind) values)).first network) (text_cmp (key_parts_of (line_values (Says kind) values)).second station) i)
+    ∙ (λ i. (rank_of kind == 2) && (same_text (key_parts_of (line_values (Says kind) values)).first network i && same_text (key_parts_of (line_values (Says kind) values)).second station i))
     ∙ and_joined (rank_of kind == 2) _ _)
 
-pub in_by_place : (f : Family) (e : Entry) → says e ≡ true → is_in f e ≡ is_eq (family_place f (parts_of e))
+pub in_by_place : (f : Family) (e : LineValues) → is_said e ≡ true → is_in f e ≡ is_eq (family_place f (key_parts_of e))
 in_by_place f e h = by_head e.head refl
   where
-    by_head : (head : Head) → e.head ≡ head → is_in f e ≡ is_eq (family_place f (parts_of e))
-    by_head (Says kind) is = subst (λ (e : Entry). is_in f e ≡ is_eq (family_place f (parts_of e))) (ap (λ h. entry h e.values) (sym is)) (in_says f kind e.values)
+    by_head : (head : Head) → e.head ≡ head → is_in f e ≡ is_eq (family_place f (key_parts_of e))
+    by_head (Says kind) is = subst (λ (e : LineValues). is_in f e ≡ is_eq (family_place f (key_parts_of e))) (ap (λ h. line_values h e.values) (sym is)) (in_says f kind e.values)
     by_head (Deletes kind) is = absurd (true≢false (sym h ∙ ap is_statement is))

@@ -3,21 +3,21 @@ use Rattle.std.specs.Prelude.{Bool, ◌&&◌}
 use Rattle.std.specs.declared.cmp.Ordering.{Ordering}
 use Rattle.std.specs.Ordering.{nat_cmp, ordering_then}
 use Rattle.std.specs.Str.{bytes_eq}
-use Rattle.epochs.specs.declared.kinds.Kind.TheVariants.{Net, Sta, Cha}
-use Rattle.epochs.specs.Lines.{Entry}
+use Rattle.epochs.specs.declared.kinds.LineKind.TheVariants.{Net, Sta, Cha}
+use Rattle.epochs.specs.Lines.{LineValues}
 use Rattle.epoch_catalog.specs.declared.families.Family.{Family}
 use Rattle.epoch_catalog.specs.declared.families.Family.TheVariants as family
-use Rattle.epoch_rules.specs.KeyOrder.{KeyParts, parts_of, text_cmp, rank_of}
+use Rattle.epoch_rules.specs.KeyOrder.{KeyParts, key_parts_of, text_cmp, rank_of}
 use Rattle.epoch_rules.specs.Rules.{is_line_of}
 
 -- a line belongs to a family
-abbrev pub is_in : Family → Entry → Bool
+abbrev pub is_in : Family → LineValues → Bool
 is_in family.Networks e = is_line_of Net e
 is_in family.Stations e = is_line_of Sta e
 is_in family.Channels e = is_line_of Cha e
-is_in (family.StationsOf network) e = is_line_of Sta e && bytes_eq (parts_of e).first network
+is_in (family.StationsOf network) e = is_line_of Sta e && bytes_eq (key_parts_of e).first network
 is_in (family.ChannelsOf network station) e =
-    is_line_of Cha e && bytes_eq (parts_of e).first network && bytes_eq (parts_of e).second station
+    is_line_of Cha e && bytes_eq (key_parts_of e).first network && bytes_eq (key_parts_of e).second station
 
 -- where a key stands to a family: before it, in it or behind it
 abbrev pub family_place : Family → KeyParts → Ordering

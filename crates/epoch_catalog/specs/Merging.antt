@@ -6,37 +6,37 @@ use Rattle.std.specs.declared.cmp.Ordering.{Ordering}
 use Rattle.std.specs.declared.cmp.Ordering.TheVariants.{Less, Equal, Greater}
 use Rattle.std.specs.Ordering.{is_eq}
 use Rattle.std.specs.BTreeSet.{BTreeSet}
-use Rattle.epochs.specs.Lines.{Entry}
+use Rattle.epochs.specs.Lines.{LineValues}
 use Rattle.epoch_rules.specs.declared.key_order.KeyView.{KeyView}
-use Rattle.epoch_rules.specs.KeyOrder.{entry_cmp, parts_cmp, parts_of}
-use Rattle.epoch_rules.specs.KeyViews.{view_seen}
+use Rattle.epoch_rules.specs.KeyOrder.{line_cmp, parts_cmp, key_parts_of}
+use Rattle.epoch_rules.specs.KeyViews.{parts_of_view}
 use Rattle.epoch_rules.specs.LiveLines.{is_replaced, last_lines}
 
 -- a key is the line's
-abbrev pub has_key : BTreeSet KeyView → Entry → Bool
-has_key keys e = list_any (λ v. is_eq (parts_cmp (parts_of e) (view_seen v))) keys.keys
+abbrev pub has_key : BTreeSet KeyView → LineValues → Bool
+has_key keys e = list_any (λ v. is_eq (parts_cmp (key_parts_of e) (parts_of_view v))) keys.keys
 
 -- the keys are those of the lines, and the heads are the last line of each key
-pub record AreFound (lines : List Entry) (keys : BTreeSet KeyView) (heads : List Entry) : Type 0 where
-  pub keys_are : (e : Entry) → has_key keys e ≡ is_replaced lines e
+pub record AreFound (lines : List LineValues) (keys : BTreeSet KeyView) (heads : List LineValues) : Type 0 where
+  pub keys_are : (e : LineValues) → has_key keys e ≡ is_replaced lines e
   pub heads_are : heads ≡ reverse (last_lines lines)
 
 -- where the key of the last line stands to a head's; before it where there is no line
-abbrev pub last_place : List Entry → Entry → Ordering
+abbrev pub last_place : List LineValues → LineValues → Ordering
 last_place [] head = Less
-last_place (l ∷ []) head = entry_cmp l head
+last_place (l ∷ []) head = line_cmp l head
 last_place (l ∷ m ∷ more) head = last_place (m ∷ more) head
 
 -- the lines at the end whose keys are greater than a head's have moved behind others, the last of them first
-pub record AreMoved (head : Entry) (lines kept behind after : List Entry) : Type 0 where
-  pub moved : List Entry
+pub record AreMoved (head : LineValues) (lines kept behind after : List LineValues) : Type 0 where
+  pub moved : List LineValues
   pub split : lines ≡ kept ++ moved
   pub put : after ≡ behind ++ reverse moved
-  pub above : AllByRecursion (λ l. entry_cmp l head ≡ Greater) moved
+  pub above : AllByRecursion (λ l. line_cmp l head ≡ Greater) moved
 
 -- the lines whose keys are less than a head's stay, and only lines of its key stood behind them
-pub record AreBefore (head : Entry) (lines kept : List Entry) : Type 0 where
-  pub dropped : List Entry
+pub record AreBefore (head : LineValues) (lines kept : List LineValues) : Type 0 where
+  pub dropped : List LineValues
   pub split : lines ≡ kept ++ dropped
-  pub same : AllByRecursion (λ l. entry_cmp l head ≡ Equal) dropped
-  pub below : AllByRecursion (λ l. entry_cmp l head ≡ Less) kept
+  pub same : AllByRecursion (λ l. line_cmp l head ≡ Equal) dropped
+  pub below : AllByRecursion (λ l. line_cmp l head ≡ Less) kept

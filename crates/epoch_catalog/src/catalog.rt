@@ -2,12 +2,12 @@
 ghost use Rattle.std.specs.Prelude.{◌≡◌, false, List, [], ◌++◌, map, filter, OnOk, OnErr, IfOk, IfErr, IsErrOf, ◌⊎◌, MatchOption, Contains};
 ghost use Rattle.std.specs.List.{list_any};
 ghost use Rattle.list_laws.specs.Only.{IsOnly};
-ghost use Rattle.epochs.specs.Lines.{Entry};
+ghost use Rattle.epochs.specs.Lines.{LineValues};
 ghost use Rattle.epochs.specs.Values.{user_line};
-ghost use Rattle.epochs.specs.Views.{seen};
+ghost use Rattle.epochs.specs.Views.{values_of_line};
 ghost use Rattle.epoch_rules.specs.Catalog.{IsCatalog, is_user};
 ghost use Rattle.epoch_catalog.specs.Families.{is_in};
-ghost use Rattle.epoch_rules.specs.Indexes.{IsIndex};
+ghost use Rattle.epoch_rules.specs.Indexes.{IsCatalogIndex};
 ghost use Rattle.epoch_rules.specs.Kept.{AreKept, IsCheckFault, RefusesLines};
 ghost use Rattle.epoch_rules.specs.LiveLines.{live_lines};
 
@@ -21,7 +21,7 @@ use std::alloc::Global;
 use std::marker::Model;
 
 /// The live lines, in the order of their keys (`specs/KeyOrder.antt`), and what the rules need of them all
-/// (`Index`). Seen as the list of lines; its type keeps `IsCatalog` and `IsIndex` of the crate `epoch_rules`.
+/// (`Index`). Seen as the list of lines; its type keeps `IsCatalog` and `IsCatalogIndex` of the crate `epoch_rules`.
 #[derive(Debug, Drop)]
 pub struct Catalog {
     lines: Vec<Line>,
@@ -29,11 +29,11 @@ pub struct Catalog {
 }
 
 impl Model for Catalog {
-    ghost Value = { List Entry };
+    ghost Value = { List LineValues };
 
-    ghost view = { λ c. map seen c.lines.items };
+    ghost view = { λ c. map values_of_line c.lines.items };
 
-    ghost invariant = { λ c. IsCatalog (map seen c.lines.items) × IsIndex c.index (map seen c.lines.items) };
+    ghost invariant = { λ c. IsCatalog (map values_of_line c.lines.items) × IsCatalogIndex c.index (map values_of_line c.lines.items) };
 }
 
 impl Catalog {
@@ -49,7 +49,7 @@ impl Catalog {
 
     /// The live lines, in the order of their keys.
     pub fn lines(&self) -> &[Line]
-        ensures lines { map seen result.now ≡ self.now }
+        ensures lines { map values_of_line result.now ≡ self.now }
         ensures kept { IsCatalog self.now }
     {
         self.lines.as_slice()
@@ -64,7 +64,7 @@ impl Catalog {
 
     /// The lines of a family, in order, found by halves.
     pub fn family(&self, family: &Family) -> &[Line]
-        ensures { map seen result.now ≡ filter (is_in family.now) self.now }
+        ensures { map values_of_line result.now ≡ filter (is_in family.now) self.now }
     {
         family_in(self.lines.as_slice(), family)
     }
@@ -72,10 +72,10 @@ impl Catalog {
     /// Whether lines keep the rules, each over the live lines with the lines before it: else the first line
     /// that breaks one, counted from 1, and the first rule that it breaks. Changes nothing.
     pub fn check(&self, lines: &Many<Line>) -> Result<(), CheckFault>
-        ensures kept { IfOk result (λ _. AreKept self.now (map seen lines.now)) }
-        ensures refused { IfErr result (RefusesLines self.now (map seen lines.now)) }
+        ensures kept { IfOk result (λ _. AreKept self.now (map values_of_line lines.now)) }
+        ensures refused { IfErr result (RefusesLines self.now (map values_of_line lines.now)) }
         ensures exact { IsErrOf result CheckFault.OutOfMemory
-            ⊎ IsOnly (λ _. AreKept self.now (map seen lines.now)) (IsCheckFault self.now (map seen lines.now)) result }
+            ⊎ IsOnly (λ _. AreKept self.now (map values_of_line lines.now)) (IsCheckFault self.now (map values_of_line lines.now)) result }
     {
         check_lines(
             *self.lines.allocator(),
@@ -87,8 +87,8 @@ impl Catalog {
 
     /// Takes in more lines, which keep the rules. Where memory is missing, nothing changes.
     pub fn apply(&mut self, lines: &Many<Line>) -> Result<(), OutOfMemory>
-        requires { AreKept self.old (map seen lines.now) }
-        ensures ok { OnOk result (self.new ≡ live_lines (self.old ++ map seen lines.now)) }
+        requires { AreKept self.old (map values_of_line lines.now) }
+        ensures ok { OnOk result (self.new ≡ live_lines (self.old ++ map values_of_line lines.now)) }
         ensures err { OnErr result (self.new ≡ self.old) }
     {
         let alloc = *self.lines.allocator();

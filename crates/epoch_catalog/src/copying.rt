@@ -3,9 +3,9 @@ ghost use Rattle.std.specs.Prelude.{◌≡◌, IfOk};
 ghost use Rattle.channel_globs.specs.PatternText.{IsPatternList};
 ghost use Rattle.epochs.specs.declared.key.Key.TheVariants as key;
 ghost use Rattle.epochs.specs.declared.line.Line.TheVariants as line;
-ghost use Rattle.epochs.specs.Entries.{IsEntry};
+ghost use Rattle.epochs.specs.Spellable.{IsSpellable};
 ghost use Rattle.epochs.specs.Keys.{deletion_line};
-ghost use Rattle.epochs.specs.Views.{seen};
+ghost use Rattle.epochs.specs.Views.{values_of_line};
 
 use channel_globs::{Code, Part, PatternList};
 use epochs::{
@@ -36,7 +36,7 @@ fn copy_glob(alloc: Global, part: Part, glob: &Glob) -> Result<Glob, OutOfMemory
 }
 
 fn copy_net(alloc: Global, net: &NetworkEpoch) -> Result<Line, OutOfMemory>
-    ensures { IfOk result (λ copy. seen copy ≡ seen (line.Net net.now)) }
+    ensures { IfOk result (λ copy. values_of_line copy ≡ values_of_line (line.Net net.now)) }
 {
     Ok(Line::Net(NetworkEpoch {
         network: net.network,
@@ -47,7 +47,7 @@ fn copy_net(alloc: Global, net: &NetworkEpoch) -> Result<Line, OutOfMemory>
 }
 
 fn copy_sta(alloc: Global, sta: &StationEpoch) -> Result<Line, OutOfMemory>
-    ensures { IfOk result (λ copy. seen copy ≡ seen (line.Sta sta.now)) }
+    ensures { IfOk result (λ copy. values_of_line copy ≡ values_of_line (line.Sta sta.now)) }
 {
     Ok(Line::Sta(StationEpoch {
         network: sta.network,
@@ -62,7 +62,7 @@ fn copy_sta(alloc: Global, sta: &StationEpoch) -> Result<Line, OutOfMemory>
 }
 
 fn copy_cha(alloc: Global, cha: &ChannelEpoch) -> Result<Line, OutOfMemory>
-    ensures { IfOk result (λ copy. seen copy ≡ seen (line.Cha cha.now)) }
+    ensures { IfOk result (λ copy. values_of_line copy ≡ values_of_line (line.Cha cha.now)) }
 {
     let sensor = copy_text(alloc, &cha.sensor)?;
     let scale_units = copy_text(alloc, &cha.scale_units)?;
@@ -85,7 +85,7 @@ fn copy_cha(alloc: Global, cha: &ChannelEpoch) -> Result<Line, OutOfMemory>
 }
 
 fn copy_evt(alloc: Global, event: &Event) -> Result<Line, OutOfMemory>
-    ensures { IfOk result (λ copy. seen copy ≡ seen (line.Evt event.now)) }
+    ensures { IfOk result (λ copy. values_of_line copy ≡ values_of_line (line.Evt event.now)) }
 {
     let id = copy_text(alloc, &event.id)?;
     let author = copy_text(alloc, &event.author)?;
@@ -113,7 +113,7 @@ fn copy_evt(alloc: Global, event: &Event) -> Result<Line, OutOfMemory>
 }
 
 fn copy_rst(alloc: Global, rst: &Restriction) -> Result<Line, OutOfMemory>
-    ensures { IfOk result (λ copy. seen copy ≡ seen (line.Rst rst.now)) }
+    ensures { IfOk result (λ copy. values_of_line copy ≡ values_of_line (line.Rst rst.now)) }
 {
     let network = copy_glob(alloc, Part::Network, &rst.network)?;
     let station = copy_glob(alloc, Part::Station, &rst.station)?;
@@ -130,7 +130,7 @@ fn copy_rst(alloc: Global, rst: &Restriction) -> Result<Line, OutOfMemory>
 }
 
 fn copy_grt(alloc: Global, grt: &Grant) -> Result<Line, OutOfMemory>
-    ensures { IfOk result (λ copy. seen copy ≡ seen (line.Grt grt.now)) }
+    ensures { IfOk result (λ copy. values_of_line copy ≡ values_of_line (line.Grt grt.now)) }
 {
     let user = copy_text(alloc, &grt.user)?;
     let network = copy_glob(alloc, Part::Network, &grt.network)?;
@@ -149,7 +149,7 @@ fn copy_grt(alloc: Global, grt: &Grant) -> Result<Line, OutOfMemory>
 }
 
 fn copy_usr(alloc: Global, user: &User) -> Result<Line, OutOfMemory>
-    ensures { IfOk result (λ copy. seen copy ≡ seen (line.Usr user.now)) }
+    ensures { IfOk result (λ copy. values_of_line copy ≡ values_of_line (line.Usr user.now)) }
 {
     Ok(Line::Usr(User {
         name: copy_text(alloc, &user.name)?,
@@ -178,7 +178,7 @@ fn copy_restricted(
     channel: &Glob,
     start: Moment,
 ) -> Result<Key, OutOfMemory>
-    requires { IsEntry (deletion_line (key.Rst network.now station.now location.now channel.now start)) }
+    requires { IsSpellable (deletion_line (key.Rst network.now station.now location.now channel.now start)) }
     ensures { IfOk result (λ copy. copy ≡ key.Rst network.now station.now location.now channel.now start) }
 {
     Ok(Key::Rst {
@@ -200,7 +200,7 @@ fn copy_granted(
     channel: &Glob,
     start: Moment,
 ) -> Result<Key, OutOfMemory>
-    requires { IsEntry (deletion_line (key.Grt user.now network.now station.now location.now channel.now start)) }
+    requires { IsSpellable (deletion_line (key.Grt user.now network.now station.now location.now channel.now start)) }
     ensures { IfOk result (λ copy. copy ≡ key.Grt user.now network.now station.now location.now channel.now start) }
 {
     Ok(Key::Grt {
@@ -214,7 +214,7 @@ fn copy_granted(
 }
 
 fn copy_key(alloc: Global, key: &Key) -> Result<Key, OutOfMemory>
-    requires { IsEntry (deletion_line key.now) }
+    requires { IsSpellable (deletion_line key.now) }
     ensures { IfOk result (λ copy. copy ≡ key.now) }
 {
     match key {
@@ -252,7 +252,7 @@ fn copy_key(alloc: Global, key: &Key) -> Result<Key, OutOfMemory>
 }
 
 fn copy_del(alloc: Global, deletion: &Deletion) -> Result<Line, OutOfMemory>
-    ensures { IfOk result (λ copy. seen copy ≡ seen (line.Del deletion.now)) }
+    ensures { IfOk result (λ copy. values_of_line copy ≡ values_of_line (line.Del deletion.now)) }
 {
     Ok(Line::Del(Deletion {
         key: copy_key(alloc, &deletion.key)?,
@@ -261,7 +261,7 @@ fn copy_del(alloc: Global, deletion: &Deletion) -> Result<Line, OutOfMemory>
 
 /// A line with the same fields as this one, in memory of its own.
 pub fn copy_line(alloc: Global, line: &Line) -> Result<Line, OutOfMemory>
-    ensures { IfOk result (λ copy. seen copy ≡ seen line.now) }
+    ensures { IfOk result (λ copy. values_of_line copy ≡ values_of_line line.now) }
 {
     match line {
         Line::Net(net) => copy_net(alloc, net),

@@ -1,12 +1,12 @@
 //! Lines that stand together in a catalog.
 ghost use Rattle.std.specs.Prelude.{◌≡◌, map, filter};
-ghost use Rattle.epochs.specs.Views.{seen};
+ghost use Rattle.epochs.specs.Views.{values_of_line};
 ghost use Rattle.epoch_rules.specs.Catalog.{IsCatalog};
 ghost use Rattle.epoch_catalog.specs.Families.{is_in, family_place};
-ghost use Rattle.epoch_rules.specs.KeyOrder.{parts_of};
+ghost use Rattle.epoch_rules.specs.KeyOrder.{key_parts_of};
 
 use channel_globs::Code;
-use epoch_rules::{CHANNEL, NETWORK, STATION, key_view};
+use epoch_rules::{KeyKind, key_view};
 use epochs::Line;
 use std::cmp::Ordering;
 
@@ -27,19 +27,19 @@ pub enum Family {
 
 // Where a line stands to a family: before it, in it or behind it.
 fn place_to(family: &Family, line: &Line) -> Ordering
-    ensures { result ≡ family_place family.now (parts_of (seen line.now)) }
+    ensures { result ≡ family_place family.now (key_parts_of (values_of_line line.now)) }
 {
     let key = key_view(line);
     match family {
-        Family::Networks => key.rank.cmp(&NETWORK),
-        Family::Stations => key.rank.cmp(&STATION),
-        Family::Channels => key.rank.cmp(&CHANNEL),
+        Family::Networks => key.kind.cmp(&KeyKind::Network),
+        Family::Stations => key.kind.cmp(&KeyKind::Station),
+        Family::Channels => key.kind.cmp(&KeyKind::Channel),
         Family::StationsOf(network) => {
-            key.rank
-                .cmp(&STATION)
+            key.kind
+                .cmp(&KeyKind::Station)
                 .then(key.first.cmp(&network.as_slice()))
         }
-        Family::ChannelsOf(network, station) => key.rank.cmp(&CHANNEL).then(
+        Family::ChannelsOf(network, station) => key.kind.cmp(&KeyKind::Channel).then(
             key.first
                 .cmp(&network.as_slice())
                 .then(key.second.cmp(&station.as_slice())),
@@ -49,8 +49,8 @@ fn place_to(family: &Family, line: &Line) -> Ordering
 
 /// The lines of a family among those of a catalog, found by halves.
 pub fn family_in<'a>(lines: &'a [Line], family: &Family) -> &'a [Line]
-    requires { IsCatalog (map seen lines.now) }
-    ensures { map seen result.now ≡ filter (is_in family.now) (map seen lines.now) }
+    requires { IsCatalog (map values_of_line lines.now) }
+    ensures { map values_of_line result.now ≡ filter (is_in family.now) (map values_of_line lines.now) }
 {
     let first = lines.partition_point(|line| place_to(family, line).is_lt());
     let rest = &lines[first..];

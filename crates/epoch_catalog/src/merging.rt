@@ -3,15 +3,15 @@ ghost use Rattle.std.specs.Prelude.{◌≡◌, ◌++◌, [], ◌∷◌, ◌+◌,
 ghost use Rattle.std.specs.List.{IsDistinct};
 ghost use Rattle.std.specs.List.Sorted.{IsPermutation, IsStrictlySortedBy};
 ghost use Rattle.std.specs.Ordering.{eq_by_cmp, is_gt};
-ghost use Rattle.epochs.specs.Lines.{Entry};
-ghost use Rattle.epochs.specs.Views.{seen};
-ghost use Rattle.epoch_rules.specs.KeyOrder.{entry_cmp, have_one_key};
-ghost use Rattle.epoch_rules.specs.LiveLines.{says, last_lines, live_lines};
+ghost use Rattle.epochs.specs.Lines.{LineValues};
+ghost use Rattle.epochs.specs.Views.{values_of_line};
+ghost use Rattle.epoch_rules.specs.KeyOrder.{line_cmp, have_one_key};
+ghost use Rattle.epoch_rules.specs.LiveLines.{is_said, last_lines, live_lines};
 ghost use Rattle.epoch_rules.specs.Catalog.{IsCatalog};
 ghost use Rattle.epoch_catalog.specs.Merging.{has_key, last_place, AreMoved, AreBefore};
 
 use crate::copying::copy_line;
-use epoch_rules::{KeyView, cmp_keys, key_view, says};
+use epoch_rules::{KeyView, cmp_keys, is_said, key_view};
 use epochs::Line;
 use exact_time::OutOfMemory;
 use std::alloc::Global;
@@ -24,8 +24,8 @@ fn find_one<'a>(
     heads: &mut Vec<&'a Line>,
     line: &'a Line,
 ) -> Result<(), OutOfMemory>
-    ensures keys { OnOk result ((e : Entry) → has_key keys.new e ≡ (have_one_key e (seen line.now) || has_key keys.old e)) }
-    ensures heads { OnOk result (map (λ head. seen head.now) heads.new.items ≡ (if has_key keys.old (seen line.now) then map (λ head. seen head.now) heads.old.items else map (λ head. seen head.now) heads.old.items ++ seen line.now ∷ [])) }
+    ensures keys { OnOk result ((e : LineValues) → has_key keys.new e ≡ (have_one_key e (values_of_line line.now) || has_key keys.old e)) }
+    ensures heads { OnOk result (map (λ head. values_of_line head.now) heads.new.items ≡ (if has_key keys.old (values_of_line line.now) then map (λ head. values_of_line head.now) heads.old.items else map (λ head. values_of_line head.now) heads.old.items ++ values_of_line line.now ∷ [])) }
 {
     if keys.insert(key_view(line))? {
         heads.push(line)?;
@@ -35,7 +35,7 @@ fn find_one<'a>(
 
 // The last line of each key, found from the last line to the first.
 fn find_heads<'a>(alloc: Global, lines: &'a [Line]) -> Result<Vec<&'a Line>, OutOfMemory>
-    ensures { IfOk result (λ heads. map (λ head. seen head.now) heads.items ≡ reverse (last_lines (map seen lines.now))) }
+    ensures { IfOk result (λ heads. map (λ head. values_of_line head.now) heads.items ≡ reverse (last_lines (map values_of_line lines.now))) }
 {
     let mut keys = BTreeSet::new(alloc);
     let mut heads = Vec::new(alloc);
@@ -49,7 +49,7 @@ fn find_heads<'a>(alloc: Global, lines: &'a [Line]) -> Result<Vec<&'a Line>, Out
 
 // Copies of lines, deletions too.
 fn copy_all(alloc: Global, heads: &[&Line]) -> Result<Vec<Line>, OutOfMemory>
-    ensures { IfOk result (λ copies. map seen copies.items ≡ map (λ head. seen head.now) heads.now) }
+    ensures { IfOk result (λ copies. map values_of_line copies.items ≡ map (λ head. values_of_line head.now) heads.now) }
 {
     let mut copies = Vec::new(alloc);
     'heads: for head in heads {
@@ -60,16 +60,16 @@ fn copy_all(alloc: Global, heads: &[&Line]) -> Result<Vec<Line>, OutOfMemory>
 
 // Puts lines of different keys in the order of their keys.
 fn sort_heads(heads: &mut Vec<&Line>)
-    requires { IsDistinct (eq_by_cmp entry_cmp) (map (λ head. seen head.now) heads.old.items) }
-    ensures sorted { IsStrictlySortedBy entry_cmp (map (λ head. seen head.now) heads.new.items) }
-    ensures moved { IsPermutation (map (λ head. seen head.now) heads.old.items) (map (λ head. seen head.now) heads.new.items) }
+    requires { IsDistinct (eq_by_cmp line_cmp) (map (λ head. values_of_line head.now) heads.old.items) }
+    ensures sorted { IsStrictlySortedBy line_cmp (map (λ head. values_of_line head.now) heads.new.items) }
+    ensures moved { IsPermutation (map (λ head. values_of_line head.now) heads.old.items) (map (λ head. values_of_line head.now) heads.new.items) }
 {
     heads.sort_unstable_by(|a, b| cmp_keys(a, b));
 }
 
 // Where the key of the last line stands to a head's; before it where there is no line.
 fn place_last(live: &[Line], head: &Line) -> Ordering
-    ensures { result ≡ last_place (map seen live.now) (seen head.now) }
+    ensures { result ≡ last_place (map values_of_line live.now) (values_of_line head.now) }
 {
     match live.split_last() {
         Some((line, _)) => cmp_keys(line, head),
@@ -80,8 +80,8 @@ fn place_last(live: &[Line], head: &Line) -> Ordering
 // Moves the lines of greater keys than a head's behind others, for which there is room, the last first.
 fn move_behind(live: &mut Vec<Line>, behind: &mut Vec<Line>, head: &Line)
     requires { vec_len live.old + vec_len behind.old ≤ vec_capacity behind.old }
-    ensures moved { AreMoved (seen head.now) (map seen live.old.items) (map seen live.new.items) (map seen behind.old.items) (map seen behind.new.items) }
-    ensures rest { is_gt (last_place (map seen live.new.items) (seen head.now)) ≡ false }
+    ensures moved { AreMoved (values_of_line head.now) (map values_of_line live.old.items) (map values_of_line live.new.items) (map values_of_line behind.old.items) (map values_of_line behind.new.items) }
+    ensures rest { is_gt (last_place (map values_of_line live.new.items) (values_of_line head.now)) ≡ false }
     ensures len { vec_len live.new + vec_len behind.new ≡ vec_len live.old + vec_len behind.old }
     ensures live_capacity { vec_capacity live.new ≡ vec_capacity live.old }
     ensures behind_capacity { vec_capacity behind.new ≡ vec_capacity behind.old }
@@ -93,9 +93,9 @@ fn move_behind(live: &mut Vec<Line>, behind: &mut Vec<Line>, head: &Line)
 
 // Drops the last line where it has a head's key.
 fn drop_same(live: &mut Vec<Line>, head: &Line)
-    requires rises { IsStrictlySortedBy entry_cmp (map seen live.old.items) }
-    requires rest { is_gt (last_place (map seen live.old.items) (seen head.now)) ≡ false }
-    ensures before { AreBefore (seen head.now) (map seen live.old.items) (map seen live.new.items) }
+    requires rises { IsStrictlySortedBy line_cmp (map values_of_line live.old.items) }
+    requires rest { is_gt (last_place (map values_of_line live.old.items) (values_of_line head.now)) ≡ false }
+    ensures before { AreBefore (values_of_line head.now) (map values_of_line live.old.items) (map values_of_line live.new.items) }
     ensures len { vec_len live.new ≤ vec_len live.old }
     ensures capacity { vec_capacity live.new ≡ vec_capacity live.old }
 {
@@ -107,11 +107,11 @@ fn drop_same(live: &mut Vec<Line>, head: &Line)
 // Puts a head behind other lines, for which there is room, where it isn't a deletion.
 fn put_said(behind: &mut Vec<Line>, head: Line)
     requires { vec_len behind.old < vec_capacity behind.old }
-    ensures lines { map seen behind.new.items ≡ map seen behind.old.items ++ (if says (seen head) then seen head ∷ [] else []) }
+    ensures lines { map values_of_line behind.new.items ≡ map values_of_line behind.old.items ++ (if is_said (values_of_line head) then values_of_line head ∷ [] else []) }
     ensures len { vec_len behind.new ≤ vec_len behind.old + 1 }
     ensures capacity { vec_capacity behind.new ≡ vec_capacity behind.old }
 {
-    if says(&head) {
+    if is_said(&head) {
         behind.push_reserved(head);
     }
 }
@@ -119,11 +119,11 @@ fn put_said(behind: &mut Vec<Line>, head: Line)
 // Merges live lines and heads, both in the order of keys, from the last key to the first: what is less than
 // each head stays, and the other lines go behind, the last first.
 fn merge_heads(live: &mut Vec<Line>, heads: &mut Vec<Line>, behind: &mut Vec<Line>)
-    requires catalog { IsCatalog (map seen live.old.items) }
-    requires rise { IsStrictlySortedBy entry_cmp (map seen heads.old.items) }
+    requires catalog { IsCatalog (map values_of_line live.old.items) }
+    requires rise { IsStrictlySortedBy line_cmp (map values_of_line heads.old.items) }
     requires empty { behind.old.items ≡ [] }
     requires room { vec_len live.old + vec_len heads.old ≤ vec_capacity behind.old }
-    ensures lines { map seen live.new.items ++ reverse (map seen behind.new.items) ≡ live_lines (map seen live.old.items ++ map seen heads.old.items) }
+    ensures lines { map values_of_line live.new.items ++ reverse (map values_of_line behind.new.items) ≡ live_lines (map values_of_line live.old.items ++ map values_of_line heads.old.items) }
     ensures len { vec_len live.new + vec_len behind.new ≤ vec_len live.old + vec_len heads.old }
     ensures capacity { vec_capacity live.new ≡ vec_capacity live.old }
 {
@@ -147,8 +147,8 @@ fn put_behind(lines: &mut Vec<Line>, more: &mut Vec<Line>)
 /// the last of the new lines of each key, and needs memory only before anything changes: where it is missing,
 /// the live lines stay.
 pub fn merge(live: &mut Vec<Line>, lines: &[Line]) -> Result<(), OutOfMemory>
-    requires { IsCatalog (map seen live.old.items) }
-    ensures ok { OnOk result (map seen live.new.items ≡ live_lines (map seen live.old.items ++ map seen lines.now)) }
+    requires { IsCatalog (map values_of_line live.old.items) }
+    ensures ok { OnOk result (map values_of_line live.new.items ≡ live_lines (map values_of_line live.old.items ++ map values_of_line lines.now)) }
     ensures err { OnErr result (live.new.items ≡ live.old.items) }
 {
     let alloc = *live.allocator();

@@ -2,27 +2,27 @@
 ghost use Rattle.std.specs.Prelude.{◌≡◌, false, map, MatchOption, Contains};
 ghost use Rattle.std.specs.List.{list_any};
 ghost use Rattle.epochs.specs.Values.{user_line};
-ghost use Rattle.epochs.specs.Views.{seen};
-ghost use Rattle.epochs.specs.declared.kinds.Kind.TheVariants.{Usr};
+ghost use Rattle.epochs.specs.Views.{values_of_line};
+ghost use Rattle.epochs.specs.declared.kinds.LineKind.TheVariants.{Usr};
 ghost use Rattle.epoch_rules.specs.Catalog.{IsCatalog, is_user, user_place};
-ghost use Rattle.epoch_rules.specs.KeyOrder.{parts_of};
+ghost use Rattle.epoch_rules.specs.KeyOrder.{key_parts_of};
 ghost use Rattle.epoch_rules.specs.Rules.{is_line_of};
 
-use epoch_rules::{USER, key_view};
+use epoch_rules::{KeyKind, key_view};
 use epochs::{Line, User};
 use std::cmp::Ordering;
 
 // Where a line stands to the user of a name: before, at it or behind.
 fn place_to(name: &[u8], line: &Line) -> Ordering
-    ensures { result ≡ user_place name.now (parts_of (seen line.now)) }
+    ensures { result ≡ user_place name.now (key_parts_of (values_of_line line.now)) }
 {
     let key = key_view(line);
-    key.rank.cmp(&USER).then(key.first.cmp(&name))
+    key.kind.cmp(&KeyKind::User).then(key.first.cmp(&name))
 }
 
 // The user that a line states.
 fn user_of(line: &Line) -> Option<&User>
-    ensures { MatchOption result (is_line_of Usr (seen line.now) ≡ false) (λ user. seen line.now ≡ user_line user.now.name user.now.ha1 user.now.roles) }
+    ensures { MatchOption result (is_line_of Usr (values_of_line line.now) ≡ false) (λ user. values_of_line line.now ≡ user_line user.now.name user.now.ha1 user.now.roles) }
 {
     match line {
         Line::Usr(user) => Some(user),
@@ -32,8 +32,8 @@ fn user_of(line: &Line) -> Option<&User>
 
 /// The user of that name among the lines of a catalog, found by halves.
 pub fn user_in<'a>(lines: &'a [Line], name: &[u8]) -> Option<&'a User>
-    requires { IsCatalog (map seen lines.now) }
-    ensures { MatchOption result (list_any (is_user name.now) (map seen lines.now) ≡ false) (λ user. (user.now.name ≡ name.now) × Contains (map seen lines.now) (user_line user.now.name user.now.ha1 user.now.roles)) }
+    requires { IsCatalog (map values_of_line lines.now) }
+    ensures { MatchOption result (list_any (is_user name.now) (map values_of_line lines.now) ≡ false) (λ user. (user.now.name ≡ name.now) × Contains (map values_of_line lines.now) (user_line user.now.name user.now.ha1 user.now.roles)) }
 {
     match lines.binary_search_by(|line| place_to(name, line)) {
         Ok(place) => user_of(&lines[place]),

@@ -7,7 +7,7 @@ use Rattle.std.specs.Ordering.{is_lt, is_le, ordering_reverse}
 use Rattle.std.specs.declared.cmp.Ordering.TheVariants.{Less, Equal, Greater}
 use Rattle.std.proofs.lemmas.Bool.{both_ways, and_parts}
 use Rattle.epoch_rules.specs.declared.endings.Ending.{Ending}
-use Rattle.epoch_rules.specs.Endings.{EndingParts, ending_cmp, ending_seen, is_between}
+use Rattle.epoch_rules.specs.Endings.{EndingParts, ending_cmp, parts_of_ending, is_between}
 use Rattle.epoch_rules.proofs.EndingOrder.{endings_total}
 use Rattle.epoch_rules.proofs.Members.{none_from}
 
@@ -39,14 +39,14 @@ greater Equal h = cc
 greater Greater h = refl
 
 -- between ends that aren't in order there is none
-pub none_between : (low high : EndingParts) (ends : List Ending) → is_lt (ending_cmp low high) ≡ false → false ≡ list_any (λ q. is_between low high (ending_seen q)) ends
+pub none_between : (low high : EndingParts) (ends : List Ending) → is_lt (ending_cmp low high) ≡ false → false ≡ list_any (λ q. is_between low high (parts_of_ending q)) ends
 none_between low high ends h =
     sym
-    (none_from (λ q. is_between low high (ending_seen q)) ends
+    (none_from (λ q. is_between low high (parts_of_ending q)) ends
     (λ q q_in between.
-    let p = and_parts (is_le (ending_cmp low (ending_seen q))) (not (is_le (ending_cmp high (ending_seen q)))) between in
-    let up : ending_cmp (ending_seen q) high ≡ Less = endings_total.antisymm (ending_seen q) high ∙ ap ordering_reverse (greater (ending_cmp high (ending_seen q)) p.1) in
-    elim (level_or_less (ending_cmp low (ending_seen q)) p.0) [
-      | inl less ↦ both_ways (is_lt (ending_cmp low high)) h (ap is_lt (endings_total.trans low (ending_seen q) high less up))
-      | inr level ↦ both_ways (is_lt (ending_cmp low high)) h (ap is_lt (endings_total.congr low (ending_seen q) high level ∙ up))
+    let p = and_parts (is_le (ending_cmp low (parts_of_ending q))) (not (is_le (ending_cmp high (parts_of_ending q)))) between in
+    let up : ending_cmp (parts_of_ending q) high ≡ Less = endings_total.antisymm (parts_of_ending q) high ∙ ap ordering_reverse (greater (ending_cmp high (parts_of_ending q)) p.1) in
+    elim (level_or_less (ending_cmp low (parts_of_ending q)) p.0) [
+      | inl less ↦ both_ways (is_lt (ending_cmp low high)) h (ap is_lt (endings_total.trans low (parts_of_ending q) high less up))
+      | inr level ↦ both_ways (is_lt (ending_cmp low high)) h (ap is_lt (endings_total.congr low (parts_of_ending q) high level ∙ up))
     ]))

@@ -1,7 +1,7 @@
 -- The first rule that the live lines break with one line more.
 use Rattle.std.proofs.Common.{◌≡◌, Bool, true, false, List, Option, Some, None, if◌then◌else◌, refl}
 use Rattle.std.specs.List.{list_any, AllByRecursion}
-use Rattle.epochs.specs.Lines.{Entry}
+use Rattle.epochs.specs.Lines.{LineValues}
 use Rattle.epoch_rules.specs.declared.rule.Rule.{Rule}
 use Rattle.epoch_rules.specs.declared.rule.Rule.TheVariants.{Overlap, NoStationEpoch, NoNetworkEpoch, NoUser, Orphans, NoOperator, TooMany}
 use Rattle.epoch_rules.specs.Catalog.{IsCatalog}
@@ -22,7 +22,7 @@ abbrev pub ladder : Bool → Bool → Bool → Option Rule
 ladder orphans idle many = if orphans then Some Orphans else (if idle then Some NoOperator else (if many then Some TooMany else None))
 
 -- where a line breaks no rule by itself, the orphans are those that it makes
-pub orphans_are : (live : List Entry) (e : Entry) → IsCatalog live → AllByRecursion Tidy live → Tidy e → own_rule live e ≡ None
+pub orphans_are : (live : List LineValues) (e : LineValues) → IsCatalog live → AllByRecursion Tidy live → Tidy e → own_rule live e ≡ None
     → list_any (is_orphan (with_line live e)) (with_line live e) ≡ makes_orphans live e
 orphans_are live e is neat tidy_e own =
     let a = past (has_rival live e) Overlap _ own in

@@ -1,23 +1,23 @@
 -- Worked examples of the definitions.
 use Rattle.std.proofs.Common.{◌≡◌, ℕ, ℤ, pos, true, false, List, [], ◌∷◌, Option, Some, None, codes, refl}
-use Rattle.epochs.specs.declared.kinds.Kind.TheVariants.{Net, Sta}
+use Rattle.epochs.specs.declared.kinds.LineKind.TheVariants.{Net, Sta}
 use Rattle.epochs.specs.declared.kinds.Head.TheVariants.{Says, Deletes}
 use Rattle.epochs.specs.Fields.{code, words, time, end, number}
-use Rattle.epochs.specs.Lines.{Entry, entry}
+use Rattle.epochs.specs.Lines.{LineValues, line_values}
 use Rattle.epoch_rules.specs.declared.rule.Rule.TheVariants.{Overlap, NoNetworkEpoch, Absent}
 use Rattle.epoch_rules.specs.LiveLines.{live_lines}
 use Rattle.epoch_rules.specs.Rules.{own_rule, overlap, contains, is_orphan}
 
 -- a network from a moment on, with its description
-abbrev network : List ℕ → ℤ → Option ℤ → Entry
-network description start stop = entry (Says Net) (code (codes "IU") ∷ words description ∷ time start ∷ end stop ∷ [])
+abbrev network : List ℕ → ℤ → Option ℤ → LineValues
+network description start stop = line_values (Says Net) (code (codes "IU") ∷ words description ∷ time start ∷ end stop ∷ [])
 
-abbrev no_network : ℤ → Entry
-no_network start = entry (Deletes Net) (code (codes "IU") ∷ time start ∷ [])
+abbrev no_network : ℤ → LineValues
+no_network start = line_values (Deletes Net) (code (codes "IU") ∷ time start ∷ [])
 
-abbrev station : ℤ → Option ℤ → Entry
+abbrev station : ℤ → Option ℤ → LineValues
 station start stop =
-    entry (Says Sta) (code (codes "IU") ∷ code (codes "ANMO") ∷ number (pos 0) ∷ number (pos 0) ∷ number (pos 0) ∷ words [] ∷ time start ∷ end stop ∷ [])
+    line_values (Says Sta) (code (codes "IU") ∷ code (codes "ANMO") ∷ number (pos 0) ∷ number (pos 0) ∷ number (pos 0) ∷ words [] ∷ time start ∷ end stop ∷ [])
 
 -- a later line with the same key stands, whatever else it says
 later_stands : live_lines (network (codes "a") (pos 1) None ∷ network (codes "b") (pos 1) (Some (pos 9)) ∷ []) ≡ network (codes "b") (pos 1) (Some (pos 9)) ∷ []

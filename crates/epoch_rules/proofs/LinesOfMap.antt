@@ -9,49 +9,49 @@ use Rattle.std.specs.BTreeMap.{insert_entry}
 use Rattle.std.specs.BTreeSet.{replace_key}
 use Rattle.std.specs.Map.{remove_entry, lookup}
 use Rattle.std.specs.Set.{remove_key}
-use Rattle.epochs.specs.Lines.{Entry}
-use Rattle.epochs.specs.Views.{seen}
+use Rattle.epochs.specs.Lines.{LineValues}
+use Rattle.epochs.specs.Views.{values_of_line}
 use Rattle.epochs.specs.declared.line.Line.{Line}
 use Rattle.epoch_rules.specs.declared.key_order.KeyView.{KeyView}
-use Rattle.epoch_rules.specs.KeyOrder.{parts_of, parts_cmp, entry_cmp, have_one_key}
-use Rattle.epoch_rules.specs.KeyViews.{view_seen}
+use Rattle.epoch_rules.specs.KeyOrder.{key_parts_of, parts_cmp, line_cmp, have_one_key}
+use Rattle.epoch_rules.specs.KeyViews.{parts_of_view}
 use Rattle.epoch_rules.specs.Neighbours.{is_at_key}
 use Rattle.epoch_rules.proofs.Exact.{exact_parts}
 
 abbrev pub Pair : Type 0
 Pair = KeyView × Bor Line
 
-abbrev pub line_at : Pair → Entry
-line_at e = seen e.1.now
+abbrev pub line_at : Pair → LineValues
+line_at e = values_of_line e.1.now
 
 abbrev pub IsKeyed : Pair → Type 0
-IsKeyed e = view_seen e.0 ≡ parts_of (line_at e)
+IsKeyed e = parts_of_view e.0 ≡ key_parts_of (line_at e)
 
-module _ (cmp : KeyView → KeyView → Ordering) (is : (a b : KeyView) → cmp a b ≡ parts_cmp (view_seen a) (view_seen b)) where
-  compared : (k : KeyView) (v : Entry) (e : Pair) → view_seen k ≡ parts_of v → IsKeyed e → cmp k e.0 ≡ entry_cmp v (line_at e)
+module _ (cmp : KeyView → KeyView → Ordering) (is : (a b : KeyView) → cmp a b ≡ parts_cmp (parts_of_view a) (parts_of_view b)) where
+  compared : (k : KeyView) (v : LineValues) (e : Pair) → parts_of_view k ≡ key_parts_of v → IsKeyed e → cmp k e.0 ≡ line_cmp v (line_at e)
   compared k v e here there = is k e.0 ∙ (λ i. parts_cmp (here i) (there i))
 
-  pub put_line : (es : List Pair) (k : KeyView) (v : Bor Line) → AllByRecursion IsKeyed es → view_seen k ≡ parts_of (seen v.now)
-      → map line_at (insert_entry cmp es k v) ≡ replace_key entry_cmp (map line_at es) (seen v.now)
+  pub put_line : (es : List Pair) (k : KeyView) (v : Bor Line) → AllByRecursion IsKeyed es → parts_of_view k ≡ key_parts_of (values_of_line v.now)
+      → map line_at (insert_entry cmp es k v) ≡ replace_key line_cmp (map line_at es) (values_of_line v.now)
   put_line [] k v all here = refl
   put_line (e ∷ es) k v all here =
-      elim (cmp k e.0) as (λ r. map line_at (match_ordering r ((k, v) ∷ e ∷ es) ((e.0, v) ∷ es) (e ∷ insert_entry cmp es k v)) ≡ match_ordering r (seen v.now ∷ line_at e ∷ map line_at es) (seen v.now ∷ map line_at es) (line_at e ∷ replace_key entry_cmp (map line_at es) (seen v.now))) [
+      elim (cmp k e.0) as (λ r. map line_at (match_ordering r ((k, v) ∷ e ∷ es) ((e.0, v) ∷ es) (e ∷ insert_entry cmp es k v)) ≡ match_ordering r (values_of_line v.now ∷ line_at e ∷ map line_at es) (values_of_line v.now ∷ map line_at es) (line_at e ∷ replace_key line_cmp (map line_at es) (values_of_line v.now))) [
         | Less ↦ refl
         | Equal ↦ refl
         | Greater ↦ ap (λ l. line_at e ∷ l) (put_line es k v all.1 here)
       ]
-      ∙ ap (λ r. match_ordering r (seen v.now ∷ line_at e ∷ map line_at es) (seen v.now ∷ map line_at es) (line_at e ∷ replace_key entry_cmp (map line_at es) (seen v.now))) (compared k (seen v.now) e here all.0)
+      ∙ ap (λ r. match_ordering r (values_of_line v.now ∷ line_at e ∷ map line_at es) (values_of_line v.now ∷ map line_at es) (line_at e ∷ replace_key line_cmp (map line_at es) (values_of_line v.now))) (compared k (values_of_line v.now) e here all.0)
 
-  pub put_keyed : (es : List Pair) (k : KeyView) (v : Bor Line) → AllByRecursion IsKeyed es → view_seen k ≡ parts_of (seen v.now) → AllByRecursion IsKeyed (insert_entry cmp es k v)
+  pub put_keyed : (es : List Pair) (k : KeyView) (v : Bor Line) → AllByRecursion IsKeyed es → parts_of_view k ≡ key_parts_of (values_of_line v.now) → AllByRecursion IsKeyed (insert_entry cmp es k v)
   put_keyed [] k v all here = (here, tt)
   put_keyed (e ∷ es) k v all here =
       elim (cmp k e.0) as (λ r. cmp k e.0 ≡ r → AllByRecursion IsKeyed (match_ordering r ((k, v) ∷ e ∷ es) ((e.0, v) ∷ es) (e ∷ insert_entry cmp es k v))) [
         | Less ↦ λ _. (here, all)
-        | Equal ↦ λ h. (sym (exact_parts (view_seen k) (view_seen e.0) (sym (is k e.0) ∙ h)) ∙ here, all.1)
+        | Equal ↦ λ h. (sym (exact_parts (parts_of_view k) (parts_of_view e.0) (sym (is k e.0) ∙ h)) ∙ here, all.1)
         | Greater ↦ λ _. (all.0, put_keyed es k v all.1 here)
       ] refl
 
-  pub cut_line : (es : List Pair) (k : KeyView) (v : Entry) → AllByRecursion IsKeyed es → view_seen k ≡ parts_of v
+  pub cut_line : (es : List Pair) (k : KeyView) (v : LineValues) → AllByRecursion IsKeyed es → parts_of_view k ≡ key_parts_of v
       → map line_at (remove_entry (λ q. is_eq (cmp k q)) es) ≡ remove_key (have_one_key v) (map line_at es)
   cut_line [] k v all here = refl
   cut_line (e ∷ es) k v all here =
@@ -70,8 +70,8 @@ cut_keyed test (e ∷ es) all =
     ]
 
 -- the key of a query is live
-pub found_line : (cmp : KeyView → KeyView → Ordering) (is : (a b : KeyView) → cmp a b ≡ parts_cmp (view_seen a) (view_seen b)) (es : List Pair) (k : KeyView) (v : Entry)
-    → AllByRecursion IsKeyed es → view_seen k ≡ parts_of v → is_some (lookup (λ q. is_eq (cmp k q)) es) ≡ list_any (have_one_key v) (map line_at es)
+pub found_line : (cmp : KeyView → KeyView → Ordering) (is : (a b : KeyView) → cmp a b ≡ parts_cmp (parts_of_view a) (parts_of_view b)) (es : List Pair) (k : KeyView) (v : LineValues)
+    → AllByRecursion IsKeyed es → parts_of_view k ≡ key_parts_of v → is_some (lookup (λ q. is_eq (cmp k q)) es) ≡ list_any (have_one_key v) (map line_at es)
 found_line cmp is [] k v all here = refl
 found_line cmp is (e ∷ es) k v all here =
     elim (is_eq (cmp k e.0)) as (λ b. is_some (cond b (Some e.1) (lookup (λ q. is_eq (cmp k q)) es)) ≡ (b || list_any (have_one_key v) (map line_at es))) [
@@ -81,12 +81,12 @@ found_line cmp is (e ∷ es) k v all here =
     ∙ ap (λ r. is_eq r || list_any (have_one_key v) (map line_at es)) (compared cmp is k v e here all.0)
 
 -- some line has a key
-pub found_key : (cmp : KeyView → KeyView → Ordering) (is : (a b : KeyView) → cmp a b ≡ parts_cmp (view_seen a) (view_seen b)) (es : List Pair) (k : KeyView)
-    → AllByRecursion IsKeyed es → is_some (lookup (λ q. is_eq (cmp k q)) es) ≡ list_any (is_at_key (view_seen k)) (map line_at es)
+pub found_key : (cmp : KeyView → KeyView → Ordering) (is : (a b : KeyView) → cmp a b ≡ parts_cmp (parts_of_view a) (parts_of_view b)) (es : List Pair) (k : KeyView)
+    → AllByRecursion IsKeyed es → is_some (lookup (λ q. is_eq (cmp k q)) es) ≡ list_any (is_at_key (parts_of_view k)) (map line_at es)
 found_key cmp is [] k all = refl
 found_key cmp is (e ∷ es) k all =
-    elim (is_eq (cmp k e.0)) as (λ b. is_some (cond b (Some e.1) (lookup (λ q. is_eq (cmp k q)) es)) ≡ (b || list_any (is_at_key (view_seen k)) (map line_at es))) [
+    elim (is_eq (cmp k e.0)) as (λ b. is_some (cond b (Some e.1) (lookup (λ q. is_eq (cmp k q)) es)) ≡ (b || list_any (is_at_key (parts_of_view k)) (map line_at es))) [
       | true ↦ refl
       | false ↦ found_key cmp is es k all.1
     ]
-    ∙ ap (λ r. is_eq r || list_any (is_at_key (view_seen k)) (map line_at es)) (is k e.0 ∙ ap (parts_cmp (view_seen k)) all.0)
+    ∙ ap (λ r. is_eq r || list_any (is_at_key (parts_of_view k)) (map line_at es)) (is k e.0 ∙ ap (parts_cmp (parts_of_view k)) all.0)

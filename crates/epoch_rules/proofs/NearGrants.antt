@@ -12,14 +12,14 @@ use Rattle.std.proofs.lemmas.Int.{ints}
 use Rattle.std.proofs.lemmas.Cmp.{int_ranked, tied_itself, then_total, nat_cmp_total}
 use Rattle.std.proofs.lemmas.Bool.{and_from, and_parts, both_ways}
 use Rattle.std.proofs.lemmas.Map.Lookups.{exact_unsigned, exact_bytes}
-use Rattle.epochs.specs.declared.kinds.Kind.TheVariants.{Grt}
+use Rattle.epochs.specs.declared.kinds.LineKind.TheVariants.{Grt}
 use Rattle.epochs.specs.declared.line.Line.{Line}
 use Rattle.epochs.specs.Kinds.{Text}
-use Rattle.epochs.specs.Lines.{Entry}
-use Rattle.epochs.specs.Views.{seen}
+use Rattle.epochs.specs.Lines.{LineValues}
+use Rattle.epochs.specs.Views.{values_of_line}
 use Rattle.epoch_rules.specs.Catalog.{IsCatalog}
-use Rattle.epoch_rules.specs.KeyOrder.{KeyParts, parts_of, rank_of, text_cmp, parts_cmp, entry_cmp}
-use Rattle.epoch_rules.specs.LiveLines.{says}
+use Rattle.epoch_rules.specs.KeyOrder.{KeyParts, key_parts_of, rank_of, text_cmp, parts_cmp, line_cmp}
+use Rattle.epoch_rules.specs.LiveLines.{is_said}
 use Rattle.epoch_rules.specs.Losses.{grants_key, is_grant_of}
 use Rattle.epoch_rules.specs.Neighbours.{is_from_key, IsFirstOf, passes_there}
 use Rattle.epoch_rules.specs.Rules.{is_line_of}
@@ -75,22 +75,22 @@ split_head Less b h = inl refl
 split_head Equal b h = inr refl
 split_head Greater b h = cc
 
-module _ (live : List Entry) (is : IsCatalog live) (neat : AllByRecursion Tidy live) (user : Text) where
+module _ (live : List LineValues) (is : IsCatalog live) (neat : AllByRecursion Tidy live) (user : Text) where
   key : KeyParts
   key = grants_key user
 
-  grant_head : (x : Entry) → is_grant_of user x ≡ true → head_cmp key (parts_of x) ≡ Equal
+  grant_head : (x : LineValues) → is_grant_of user x ≡ true → head_cmp key (key_parts_of x) ≡ Equal
   unfolding head_cmp key
   grant_head x h =
-      let p = and_parts (is_line_of Grt x) (bytes_eq user (parts_of x).first) h in
-      (λ i. ordering_then (nat_cmp 5 (kind_rank Grt x p.0 i)) (text_cmp user (sym (same_text user (parts_of x).first p.1) i))) ∙ tied_itself head_total (grants_key user)
+      let p = and_parts (is_line_of Grt x) (bytes_eq user (key_parts_of x).first) h in
+      (λ i. ordering_then (nat_cmp 5 (kind_rank Grt x p.0 i)) (text_cmp user (sym (same_text user (key_parts_of x).first p.1) i))) ∙ tied_itself head_total (grants_key user)
 
-  grant_from : (x : Entry) → Has live x → is_grant_of user x ≡ true → is_from_key key x ≡ true
+  grant_from : (x : LineValues) → Has live x → is_grant_of user x ≡ true → is_from_key key x ≡ true
   unfolding key tail_cmp
   grant_from x x_in h =
-      let p = and_parts (is_line_of Grt x) (bytes_eq user (parts_of x).first) h in
+      let p = and_parts (is_line_of Grt x) (bytes_eq user (key_parts_of x).first) h in
       let late = (all_has Tidy live x neat x_in).late p.0 in
-      let q = parts_of x in
+      let q = key_parts_of x in
       ap is_le (by_head (grants_key user) q ∙ ap (λ o. ordering_then o (tail_cmp (grants_key user) q)) (grant_head x h))
       ∙ le_then (text_cmp [] q.second) (ordering_then (text_cmp [] q.third) (ordering_then (text_cmp [] q.fourth) (ordering_then (text_cmp [] q.fifth) (int_cmp (negsuc (2 ^ 63 - 1)) q.start)))) (no_text q.second)
       (le_then (text_cmp [] q.third) (ordering_then (text_cmp [] q.fourth) (ordering_then (text_cmp [] q.fifth) (int_cmp (negsuc (2 ^ 63 - 1)) q.start))) (no_text q.third)
@@ -98,25 +98,25 @@ module _ (live : List Entry) (is : IsCatalog live) (neat : AllByRecursion Tidy l
       (le_then (text_cmp [] q.fifth) (int_cmp (negsuc (2 ^ 63 - 1)) q.start) (no_text q.fifth) (le_cmp (negsuc (2 ^ 63 - 1)) q.start late))))
 
   -- a line between the key and a grant is a grant of the user
-  between_grants : (n x : Entry) → Has live n → is_from_key key n ≡ true → is_grant_of user x ≡ true → entry_cmp n x ≡ Less → is_grant_of user n ≡ true
+  between_grants : (n x : LineValues) → Has live n → is_from_key key n ≡ true → is_grant_of user x ≡ true → line_cmp n x ≡ Less → is_grant_of user n ≡ true
   unfolding key head_cmp
   between_grants n x n_in low h less =
       let k = grants_key user in
       let same = grant_head x h in
-      let head : head_cmp k (parts_of n) ≡ Equal =
-      elim (split_head (head_cmp k (parts_of n)) (tail_cmp k (parts_of n)) (sym (ap is_le (by_head k (parts_of n))) ∙ low)) [
+      let head : head_cmp k (key_parts_of n) ≡ Equal =
+      elim (split_head (head_cmp k (key_parts_of n)) (tail_cmp k (key_parts_of n)) (sym (ap is_le (by_head k (key_parts_of n))) ∙ low)) [
         | inl early ↦
-            (let later : head_cmp (parts_of x) (parts_of n) ≡ Less = sym (head_total.congr k (parts_of x) (parts_of n) same) ∙ early in
-            let wrong : entry_cmp x n ≡ Less = by_head (parts_of x) (parts_of n) ∙ ap (λ o. ordering_then o (tail_cmp (parts_of x) (parts_of n))) later in
-            let greater : entry_cmp x n ≡ Greater = parts_total.antisymm (parts_of x) (parts_of n) ∙ ap ordering_reverse less in
-            absurd (both_ways (is_lt (entry_cmp x n)) (ap is_lt greater) (ap is_lt wrong)))
+            (let later : head_cmp (key_parts_of x) (key_parts_of n) ≡ Less = sym (head_total.congr k (key_parts_of x) (key_parts_of n) same) ∙ early in
+            let wrong : line_cmp x n ≡ Less = by_head (key_parts_of x) (key_parts_of n) ∙ ap (λ o. ordering_then o (tail_cmp (key_parts_of x) (key_parts_of n))) later in
+            let greater : line_cmp x n ≡ Greater = parts_total.antisymm (key_parts_of x) (key_parts_of n) ∙ ap ordering_reverse less in
+            absurd (both_ways (is_lt (line_cmp x n)) (ap is_lt greater) (ap is_lt wrong)))
         | inr level ↦ level
       ] in
-      let parts = then_equal (nat_cmp 5 (parts_of n).rank) (text_cmp user (parts_of n).first) head in
-      let rank : rank_of Grt ≡ (parts_of n).rank = exact_unsigned 5 (parts_of n).rank parts.0 in
-      let first : user ≡ (parts_of n).first = exact_bytes user (parts_of n).first parts.1 in
-      and_from (is_line_of Grt n) (bytes_eq user (parts_of n).first)
-      (rank_kind Grt n (all_has (λ l. says l ≡ true) live n is.states n_in) (sym rank))
+      let parts = then_equal (nat_cmp 5 (key_parts_of n).rank) (text_cmp user (key_parts_of n).first) head in
+      let rank : rank_of Grt ≡ (key_parts_of n).rank = exact_unsigned 5 (key_parts_of n).rank parts.0 in
+      let first : user ≡ (key_parts_of n).first = exact_bytes user (key_parts_of n).first parts.1 in
+      and_from (is_line_of Grt n) (bytes_eq user (key_parts_of n).first)
+      (rank_kind Grt n (all_has (λ l. is_said l ≡ true) live n is.states n_in) (sym rank))
       (ap (bytes_eq user) (sym first) ∙ text_itself user)
 
   pub near_grants : (there : Option (Bor Line)) → IsFirstOf (filter (is_from_key (grants_key user)) live) there → passes_there (is_grant_of user) there ≡ list_any (is_grant_of user) live
@@ -127,14 +127,14 @@ module _ (live : List Entry) (is : IsCatalog live) (neat : AllByRecursion Tidy l
     where
       forth : (there : Option (Bor Line)) → IsFirstOf (filter (is_from_key (grants_key user)) live) there → passes_there (is_grant_of user) there ≡ true → list_any (is_grant_of user) live ≡ true
       forth None first h = cc
-      forth (Some l) first h = any_has (is_grant_of user) live (seen l.now) (first_there live is.rises (is_from_key (grants_key user)) first.0 (seen l.now) first.1).0 h
+      forth (Some l) first h = any_has (is_grant_of user) live (values_of_line l.now) (first_there live is.rises (is_from_key (grants_key user)) first.0 (values_of_line l.now) first.1).0 h
 
-      back : (x : Entry) → Has live x → is_grant_of user x ≡ true → (there : Option (Bor Line)) → IsFirstOf (filter (is_from_key (grants_key user)) live) there → passes_there (is_grant_of user) there ≡ true
+      back : (x : LineValues) → Has live x → is_grant_of user x ≡ true → (there : Option (Bor Line)) → IsFirstOf (filter (is_from_key (grants_key user)) live) there → passes_there (is_grant_of user) there ≡ true
       back x x_in h None first = absurd (none_there live is.rises (is_from_key (grants_key user)) x first x_in (grant_from x x_in h))
       back x x_in h (Some l) first =
-          elim (from_first live is.rises (is_from_key (grants_key user)) first.0 (seen l.now) x first.1 x_in (grant_from x x_in h)) [
+          elim (from_first live is.rises (is_from_key (grants_key user)) first.0 (values_of_line l.now) x first.1 x_in (grant_from x x_in h)) [
             | inl here ↦ ap (is_grant_of user) here ∙ h
             | inr later ↦
-                (let n = first_there live is.rises (is_from_key (grants_key user)) first.0 (seen l.now) first.1 in
-                between_grants (seen l.now) x n.0 n.1 h later)
+                (let n = first_there live is.rises (is_from_key (grants_key user)) first.0 (values_of_line l.now) first.1 in
+                between_grants (values_of_line l.now) x n.0 n.1 h later)
           ]

@@ -9,8 +9,8 @@ use Rattle.std.proofs.lemmas.Int.{ints}
 use Rattle.std.proofs.lemmas.Cmp.{int_ranked}
 use Rattle.std.specs.Cmp.{int_cmp_is}
 use Rattle.std.proofs.lemmas.List.Kept.{IsStrictlySortedBy-filter}
-use Rattle.epochs.specs.Lines.{Entry}
-use Rattle.epoch_rules.specs.KeyOrder.{KeyParts, text_cmp, family_cmp, parts_cmp, entry_cmp}
+use Rattle.epochs.specs.Lines.{LineValues}
+use Rattle.epoch_rules.specs.KeyOrder.{KeyParts, text_cmp, family_cmp, parts_cmp, line_cmp}
 use Rattle.epoch_rules.proofs.Members.{Has, all_has}
 use Rattle.epoch_rules.proofs.Orders.{family_total, then_assoc}
 use Rattle.epoch_rules.proofs.LastLine.{below_middle}
@@ -58,7 +58,7 @@ pub between_start : (a b : KeyParts) → family_cmp a b ≡ Equal → parts_cmp 
 between_start a b same less =
     starts_less a.start b.start (sym (ap (λ o. ordering_then o (int_cmp a.start b.start)) same) ∙ by_family a b ∙ less)
 
-has_filter : (test : Entry → Bool) (xs : List Entry) (y : Entry) → Has xs y → test y ≡ true → Has (filter test xs) y
+has_filter : (test : LineValues → Bool) (xs : List LineValues) (y : LineValues) → Has xs y → test y ≡ true → Has (filter test xs) y
 has_filter test [] y has h = absurd has
 has_filter test (x ∷ xs) y (inl is) h = subst (λ b. Has (cond b (x ∷ filter test xs) (filter test xs)) y) (sym (ap test is ∙ h)) (inl is)
 has_filter test (x ∷ xs) y (inr has) h =
@@ -67,7 +67,7 @@ has_filter test (x ∷ xs) y (inr has) h =
       | false ↦ has_filter test xs y has h
     ]
 
-filter_has : (test : Entry → Bool) (xs : List Entry) (y : Entry) → Has (filter test xs) y → Has xs y × (test y ≡ true)
+filter_has : (test : LineValues → Bool) (xs : List LineValues) (y : LineValues) → Has (filter test xs) y → Has xs y × (test y ≡ true)
 filter_has test [] y has = absurd has
 filter_has test (x ∷ xs) y has =
     let more = filter_has test xs y in
@@ -82,11 +82,11 @@ filter_has test (x ∷ xs) y has =
           (let m = more (subst (λ b. Has (cond b (x ∷ filter test xs) (filter test xs)) y) f has) in (inr m.0, m.1))
     ]
 
-has_last : (xs : List Entry) (p : Entry) → Has (xs ++ p ∷ []) p
+has_last : (xs : List LineValues) (p : LineValues) → Has (xs ++ p ∷ []) p
 has_last [] p = inl refl
 has_last (x ∷ xs) p = inr (has_last xs p)
 
-in_front : (xs : List Entry) (p y : Entry) → Has (xs ++ p ∷ []) y → (y ≡ p) ⊎ Has xs y
+in_front : (xs : List LineValues) (p y : LineValues) → Has (xs ++ p ∷ []) y → (y ≡ p) ⊎ Has xs y
 in_front [] p y (inl is) = inl (sym is)
 in_front [] p y (inr has) = absurd has
 in_front (x ∷ xs) p y (inl is) = inr (inl is)
@@ -96,33 +96,33 @@ in_front (x ∷ xs) p y (inr has) =
       | inr before ↦ inr (inr before)
     ]
 
-module _ (live : List Entry) (up : IsStrictlySortedBy entry_cmp live) (test : Entry → Bool) where
+module _ (live : List LineValues) (up : IsStrictlySortedBy line_cmp live) (test : LineValues → Bool) where
   -- the last that passes
-  pub last_there : (before : List Entry) (p : Entry) → filter test live ≡ before ++ p ∷ [] → Has live p × (test p ≡ true)
+  pub last_there : (before : List LineValues) (p : LineValues) → filter test live ≡ before ++ p ∷ [] → Has live p × (test p ≡ true)
   last_there before p is = filter_has test live p (subst (λ l. Has l p) (sym is) (has_last before p))
 
-  pub up_to_last : (before : List Entry) (p y : Entry) → filter test live ≡ before ++ p ∷ [] → Has live y → test y ≡ true → (y ≡ p) ⊎ (entry_cmp y p ≡ Less)
+  pub up_to_last : (before : List LineValues) (p y : LineValues) → filter test live ≡ before ++ p ∷ [] → Has live y → test y ≡ true → (y ≡ p) ⊎ (line_cmp y p ≡ Less)
   up_to_last before p y is has h =
-      let sorted = subst (IsStrictlySortedBy entry_cmp) is (IsStrictlySortedBy-filter entry_cmp test live up) in
+      let sorted = subst (IsStrictlySortedBy line_cmp) is (IsStrictlySortedBy-filter line_cmp test live up) in
       elim (in_front before p y (subst (λ l. Has l y) is (has_filter test live y has h))) [
         | inl same ↦ inl same
-        | inr there ↦ inr (all_has (λ x. entry_cmp x p ≡ Less) before y (below_middle before p [] sorted) there)
+        | inr there ↦ inr (all_has (λ x. line_cmp x p ≡ Less) before y (below_middle before p [] sorted) there)
       ]
 
   -- the first that passes
-  pub first_there : (after : List Entry) (p : Entry) → filter test live ≡ p ∷ after → Has live p × (test p ≡ true)
+  pub first_there : (after : List LineValues) (p : LineValues) → filter test live ≡ p ∷ after → Has live p × (test p ≡ true)
   first_there after p is = filter_has test live p (subst (λ l. Has l p) (sym is) (inl refl))
 
-  pub from_first : (after : List Entry) (p y : Entry) → filter test live ≡ p ∷ after → Has live y → test y ≡ true → (p ≡ y) ⊎ (entry_cmp p y ≡ Less)
+  pub from_first : (after : List LineValues) (p y : LineValues) → filter test live ≡ p ∷ after → Has live y → test y ≡ true → (p ≡ y) ⊎ (line_cmp p y ≡ Less)
   from_first after p y is has h =
-      let sorted = subst (IsStrictlySortedBy entry_cmp) is (IsStrictlySortedBy-filter entry_cmp test live up) in
+      let sorted = subst (IsStrictlySortedBy line_cmp) is (IsStrictlySortedBy-filter line_cmp test live up) in
       let there : (p ≡ y) ⊎ Has after y = subst (λ l. Has l y) is (has_filter test live y has h) in
       elim there [
         | inl same ↦ inl same
-        | inr later ↦ inr (all_has (λ x. entry_cmp p x ≡ Less) after y (sorted_head entry_cmp p after sorted) later)
+        | inr later ↦ inr (all_has (λ x. line_cmp p x ≡ Less) after y (sorted_head line_cmp p after sorted) later)
       ]
 
-  pub none_there : (y : Entry) → filter test live ≡ [] → Has live y → test y ≡ true → ⊥
+  pub none_there : (y : LineValues) → filter test live ≡ [] → Has live y → test y ≡ true → ⊥
   none_there y is has h = subst (λ l. Has l y) is (has_filter test live y has h)
 
 -- keys of one family by their starts

@@ -6,7 +6,7 @@ use Rattle.std.specs.Ordering.{ordering_then}
 use Rattle.std.specs.Cmp.{IsTotalOrder}
 use Rattle.std.specs.Cmp.Lexicographic.{nat_list_cmp_total}
 use Rattle.std.proofs.lemmas.Cmp.{then_total, int_cmp_total, nat_cmp_total}
-use Rattle.epoch_rules.specs.KeyOrder.{parts_of, family_cmp, parts_cmp, entry_cmp}
+use Rattle.epoch_rules.specs.KeyOrder.{key_parts_of, family_cmp, parts_cmp, line_cmp}
 
 pub then_assoc : (a b c : Ordering) → ordering_then (ordering_then a b) c ≡ ordering_then a (ordering_then b c)
 then_assoc Less b c = refl
@@ -38,5 +38,5 @@ parts_total =
     (then_total (total_on (λ p. p.fourth) nat_list_cmp_total)
     (then_total (total_on (λ p. p.fifth) nat_list_cmp_total) (total_on (λ p. p.start) int_cmp_total))))))
 
-pub entries_total : IsTotalOrder entry_cmp
-entries_total = total_on parts_of parts_total
+pub lines_total : IsTotalOrder line_cmp
+lines_total = total_on key_parts_of parts_total

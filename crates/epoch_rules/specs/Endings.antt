@@ -6,12 +6,13 @@ use Rattle.std.specs.Ordering.{nat_cmp, int_cmp, bool_cmp, ordering_then, is_eq}
 use Rattle.std.specs.declared.ops.Bound.TheVariants.{Included, Excluded}
 use Rattle.std.specs.BTreeMap.Range.{range_contains}
 use Rattle.std.specs.BTreeSet.{BTreeSet}
-use Rattle.epochs.specs.declared.kinds.Kind.TheVariants.{Sta, Cha}
+use Rattle.epochs.specs.declared.kinds.LineKind.TheVariants.{Sta, Cha}
 use Rattle.epochs.specs.Kinds.{Text}
-use Rattle.epochs.specs.Lines.{Entry, end_of}
+use Rattle.epochs.specs.Lines.{LineValues, end_of}
 use Rattle.epoch_rules.specs.declared.endings.ChildKey.{ChildKey}
 use Rattle.epoch_rules.specs.declared.endings.Ending.{Ending}
-use Rattle.epoch_rules.specs.KeyOrder.{KeyParts, parts_of, text_cmp, parts_cmp, or_zero}
+use Rattle.epoch_rules.specs.KeyKinds.{key_rank}
+use Rattle.epoch_rules.specs.KeyOrder.{KeyParts, key_parts_of, text_cmp, parts_cmp, or_zero}
 use Rattle.epoch_rules.specs.KeyViews.{view_of}
 use Rattle.epoch_rules.specs.Rules.{is_line_of}
 
@@ -35,26 +36,26 @@ ending rank first second stop key = record {
 }
 
 -- as the program keeps them, without the line
-abbrev pub child_seen : ChildKey → KeyParts
-child_seen k = view_of k.rank k.network k.station k.location k.channel [] k.start
+abbrev pub parts_of_child : ChildKey → KeyParts
+parts_of_child k = view_of (key_rank k.kind) k.network k.station k.location k.channel [] k.start
 
-abbrev pub ending_seen : Ending → EndingParts
-ending_seen e = record {
-  rank = e.rank;
+abbrev pub parts_of_ending : Ending → EndingParts
+parts_of_ending e = record {
+  rank = key_rank e.kind;
   first = e.first;
   second = e.second;
   forever = e.forever;
   micros = e.micros;
-  key = child_seen e.key;
+  key = parts_of_child e.key;
 }
 
 -- a line that lies in a container
-abbrev pub is_child : Entry → Bool
+abbrev pub is_child : LineValues → Bool
 is_child e = is_line_of Sta e || is_line_of Cha e
 
-abbrev pub ending_of : Entry → EndingParts
+abbrev pub ending_of : LineValues → EndingParts
 ending_of e =
-    ending (parts_of e).rank (parts_of e).first (if is_line_of Cha e then (parts_of e).second else []) (end_of e.values) (parts_of e)
+    ending (key_parts_of e).rank (key_parts_of e).first (if is_line_of Cha e then (key_parts_of e).second else []) (end_of e.values) (key_parts_of e)
 
 -- a key behind all keys
 abbrev pub last_key : KeyParts
@@ -73,17 +74,17 @@ ending_cmp a b =
     (ordering_then (int_cmp a.micros b.micros) (parts_cmp a.key b.key)))))
 
 -- the set holds the ends of those lines that lie in containers, and no others
-abbrev pub HoldsEnds : BTreeSet Ending → List Entry → Type 0
+abbrev pub HoldsEnds : BTreeSet Ending → List LineValues → Type 0
 HoldsEnds ends lines =
-    (test : EndingParts → Bool) → list_any (λ q. test (ending_seen q)) ends.keys ≡ list_any (λ e. is_child e && test (ending_of e)) lines
+    (test : EndingParts → Bool) → list_any (λ q. test (parts_of_ending q)) ends.keys ≡ list_any (λ e. is_child e && test (ending_of e)) lines
 
 -- the set holds one more end, or all others
 abbrev pub EndsWith : BTreeSet Ending → EndingParts → BTreeSet Ending → Type 0
-EndsWith ends e more = (test : EndingParts → Bool) → list_any (λ q. test (ending_seen q)) more.keys ≡ (test e || list_any (λ q. test (ending_seen q)) ends.keys)
+EndsWith ends e more = (test : EndingParts → Bool) → list_any (λ q. test (parts_of_ending q)) more.keys ≡ (test e || list_any (λ q. test (parts_of_ending q)) ends.keys)
 
 abbrev pub EndsWithout : BTreeSet Ending → EndingParts → BTreeSet Ending → Type 0
 EndsWithout ends e fewer =
-    (test : EndingParts → Bool) → list_any (λ q. test (ending_seen q)) fewer.keys ≡ list_any (λ q. not (is_eq (ending_cmp e (ending_seen q))) && test (ending_seen q)) ends.keys
+    (test : EndingParts → Bool) → list_any (λ q. test (parts_of_ending q)) fewer.keys ≡ list_any (λ q. not (is_eq (ending_cmp e (parts_of_ending q))) && test (parts_of_ending q)) ends.keys
 
 -- an end stands at a cut or after it, and before another
 abbrev pub is_between : EndingParts → EndingParts → EndingParts → Bool

@@ -3,12 +3,12 @@ use Rattle.std.specs.Prelude.{ℕ, zero, suc, ℤ, pos, Bool, List, [], ◌∷�
 use Rattle.std.specs.declared.cmp.Ordering.{Ordering}
 use Rattle.std.specs.Ordering.{nat_cmp, int_cmp, is_eq, ordering_then}
 use Rattle.std.specs.Cmp.Lexicographic.{slice_cmp}
-use Rattle.epochs.specs.declared.kinds.Kind.{Kind}
-use Rattle.epochs.specs.declared.kinds.Kind.TheVariants.{Net, Sta, Cha, Evt, Rst, Grt, Usr}
+use Rattle.epochs.specs.declared.kinds.LineKind.{LineKind}
+use Rattle.epochs.specs.declared.kinds.LineKind.TheVariants.{Net, Sta, Cha, Evt, Rst, Grt, Usr}
 use Rattle.epochs.specs.Kinds.{Text}
 use Rattle.epochs.specs.Fields.{Value, code, words, patterns}
 use Rattle.epochs.specs.Keys.{KeyValues, key_of}
-use Rattle.epochs.specs.Lines.{Entry, start_of}
+use Rattle.epochs.specs.Lines.{LineValues, start_of}
 
 -- A key as it is compared: its kind, its texts and its start. A key has at most five texts, and empty
 -- ones stand for the others; a pattern list counts as it was written.
@@ -22,7 +22,7 @@ pub record KeyParts : Type 0 where
   pub start : ℤ
 
 -- the kinds stand in this order
-abbrev pub rank_of : Kind → ℕ
+abbrev pub rank_of : LineKind → ℕ
 rank_of Net = 0
 rank_of Sta = 1
 rank_of Cha = 2
@@ -64,8 +64,8 @@ key_parts key = record {
 }
 
 -- the key of a line; a deletion has the key that it deletes
-abbrev pub parts_of : Entry → KeyParts
-parts_of e = key_parts (key_of e)
+abbrev pub key_parts_of : LineValues → KeyParts
+key_parts_of e = key_parts (key_of e)
 
 -- texts by their bytes
 abbrev pub text_cmp : Text → Text → Ordering
@@ -91,9 +91,9 @@ parts_cmp a b =
     (ordering_then (text_cmp a.fifth b.fifth) (int_cmp a.start b.start))))))
 
 -- lines by their keys
-abbrev pub entry_cmp : Entry → Entry → Ordering
-entry_cmp a b = parts_cmp (parts_of a) (parts_of b)
+abbrev pub line_cmp : LineValues → LineValues → Ordering
+line_cmp a b = parts_cmp (key_parts_of a) (key_parts_of b)
 
 -- two lines say something of one thing
-abbrev pub have_one_key : Entry → Entry → Bool
-have_one_key a b = is_eq (entry_cmp a b)
+abbrev pub have_one_key : LineValues → LineValues → Bool
+have_one_key a b = is_eq (line_cmp a b)

@@ -2,6 +2,7 @@
 use Rattle.std.specs.Prelude.{ℕ, ℤ}
 use Rattle.epochs.specs.Kinds.{Text}
 use Rattle.epoch_rules.specs.declared.key_order.KeyView.{KeyView}
+use Rattle.epoch_rules.specs.KeyKinds.{key_rank}
 use Rattle.epoch_rules.specs.KeyOrder.{KeyParts}
 
 abbrev pub view_of : ℕ → (first second third fourth fifth : Text) → ℤ → KeyParts
@@ -15,5 +16,5 @@ view_of rank first second third fourth fifth start = record {
   start = start;
 }
 
-abbrev pub view_seen : KeyView → KeyParts
-view_seen v = view_of v.rank v.first.now v.second.now v.third.now v.fourth.now v.fifth.now v.start
+abbrev pub parts_of_view : KeyView → KeyParts
+parts_of_view v = view_of (key_rank v.kind) v.first.now v.second.now v.third.now v.fourth.now v.fifth.now v.start

@@ -4,6 +4,7 @@ pub mod Containers
 pub mod Endings
 pub mod Indexes
 pub mod Kept
+pub mod KeyKinds
 pub mod KeyOrder
 pub mod KeyViews
 pub mod LiveLines

@@ -1,9 +1,9 @@
 //! Whether lines keep the rules.
 ghost use Rattle.std.specs.Prelude.{◌≡◌, ◌⊎◌, IfOk, IfErr, IsErrOf, map};
 ghost use Rattle.list_laws.specs.Only.{IsOnly};
-ghost use Rattle.epochs.specs.Views.{seen};
+ghost use Rattle.epochs.specs.Views.{values_of_line};
 ghost use Rattle.epoch_rules.specs.Catalog.{IsCatalog};
-ghost use Rattle.epoch_rules.specs.Indexes.{IsIndex};
+ghost use Rattle.epoch_rules.specs.Indexes.{IsCatalogIndex};
 ghost use Rattle.epoch_rules.specs.Kept.{AreKept, IsCheckFault, RefusesLines};
 
 use crate::index::Index;
@@ -21,12 +21,12 @@ pub fn check_lines(
     index: &Index,
     lines: &[Line],
 ) -> Result<(), CheckFault>
-    requires catalog { IsCatalog (map seen live.now) }
-    requires index { IsIndex index.now (map seen live.now) }
-    ensures kept { IfOk result (λ _. AreKept (map seen live.now) (map seen lines.now)) }
-    ensures refused { IfErr result (RefusesLines (map seen live.now) (map seen lines.now)) }
+    requires catalog { IsCatalog (map values_of_line live.now) }
+    requires index { IsCatalogIndex index.now (map values_of_line live.now) }
+    ensures kept { IfOk result (λ _. AreKept (map values_of_line live.now) (map values_of_line lines.now)) }
+    ensures refused { IfErr result (RefusesLines (map values_of_line live.now) (map values_of_line lines.now)) }
     ensures exact { IsErrOf result CheckFault.OutOfMemory
-        ⊎ IsOnly (λ _. AreKept (map seen live.now) (map seen lines.now)) (IsCheckFault (map seen live.now) (map seen lines.now)) result }
+        ⊎ IsOnly (λ _. AreKept (map values_of_line live.now) (map values_of_line lines.now)) (IsCheckFault (map values_of_line live.now) (map values_of_line lines.now)) result }
 {
     let mut outline = Outline::of(alloc, live, index)?;
     'lines: for (place, line) in lines.iter().enumerate() {

@@ -2,11 +2,12 @@
 //! the live lines are a catalog, those next to a key decide.
 ghost use Rattle.std.specs.Prelude.{◌≡◌, None, not, nat_lt, length, ◌&&◌, ◌||◌, if◌then◌else◌};
 ghost use Rattle.std.specs.List.{list_any};
-ghost use Rattle.epochs.specs.Views.{seen};
+ghost use Rattle.epochs.specs.Views.{values_of_line};
 ghost use Rattle.epoch_rules.specs.Catalog.{IsCatalog};
 ghost use Rattle.epoch_rules.specs.Endings.{is_child};
+ghost use Rattle.epoch_rules.specs.KeyKinds.{key_rank};
 ghost use Rattle.epoch_rules.specs.KeyOrder.{have_one_key};
-ghost use Rattle.epoch_rules.specs.KeyViews.{view_seen};
+ghost use Rattle.epoch_rules.specs.KeyViews.{parts_of_view};
 ghost use Rattle.epoch_rules.specs.Losses.{network_key, station_key, user_key, grants_key, is_grant_of, new_end, is_cut_in, loses_grants, makes_orphans};
 ghost use Rattle.epoch_rules.specs.Neighbours.{passes_there};
 ghost use Rattle.epoch_rules.specs.Outlines.{outlined, IsOutline};
@@ -15,12 +16,13 @@ ghost use Rattle.epoch_rules.specs.Rules.{has_rival, lacks_station, lacks_networ
 use crate::container::container_of;
 use crate::endings::{cut, has_between};
 use crate::key_code::KeyCode;
-use crate::key_order::{GRANT, KeyView, NETWORK, STATION, USER, key_view};
+use crate::key_kind::KeyKind;
+use crate::key_order::{KeyView, key_view};
 use crate::neighbours::{first_after, first_from, last_before, last_up_to, line_at};
 use crate::outline::Outline;
 use crate::relations::{
     count_operator, holds_channel, holds_station, is_channel, is_epoch, is_grant, is_rival,
-    is_station, says,
+    is_said, is_station,
 };
 use crate::rule::Rule;
 use crate::spans::{end, start};
@@ -31,10 +33,10 @@ const MOST_LINES: usize = 100_000;
 
 // Where a station's network would stand that starts with the station.
 fn network_key(station: &Line) -> KeyView<'_>
-    ensures { view_seen result ≡ network_key (seen station.now) }
+    ensures { parts_of_view result ≡ network_key (values_of_line station.now) }
 {
     KeyView {
-        rank: NETWORK,
+        kind: KeyKind::Network,
         first: key_view(station).first,
         second: &[],
         third: &[],
@@ -46,10 +48,10 @@ fn network_key(station: &Line) -> KeyView<'_>
 
 // Where a channel's station would stand that starts with the channel.
 fn station_key(channel: &Line) -> KeyView<'_>
-    ensures { view_seen result ≡ station_key (seen channel.now) }
+    ensures { parts_of_view result ≡ station_key (values_of_line channel.now) }
 {
     KeyView {
-        rank: STATION,
+        kind: KeyKind::Station,
         first: key_view(channel).first,
         second: key_view(channel).second,
         third: &[],
@@ -61,10 +63,10 @@ fn station_key(channel: &Line) -> KeyView<'_>
 
 // The key of the user of a grant.
 fn user_key(grant: &Line) -> KeyView<'_>
-    ensures { view_seen result ≡ user_key (seen grant.now) }
+    ensures { parts_of_view result ≡ user_key (values_of_line grant.now) }
 {
     KeyView {
-        rank: USER,
+        kind: KeyKind::User,
         first: key_view(grant).first,
         second: &[],
         third: &[],
@@ -76,7 +78,7 @@ fn user_key(grant: &Line) -> KeyView<'_>
 
 // Whether a line, if there is one, is a rival.
 fn is_rival_there(line: &Line, other: Option<&Line>) -> bool
-    ensures { result ≡ passes_there (is_rival (seen line.now)) other.entry }
+    ensures { result ≡ passes_there (is_rival (values_of_line line.now)) other.entry }
 {
     match other {
         Some(other) => is_rival(line, other),
@@ -86,14 +88,14 @@ fn is_rival_there(line: &Line, other: Option<&Line>) -> bool
 
 // Whether one of two lines, where they are there, is a rival.
 fn is_rival_among(line: &Line, before: Option<&Line>, after: Option<&Line>) -> bool
-    ensures { result ≡ (passes_there (is_rival (seen line.now)) before.entry || passes_there (is_rival (seen line.now)) after.entry) }
+    ensures { result ≡ (passes_there (is_rival (values_of_line line.now)) before.entry || passes_there (is_rival (values_of_line line.now)) after.entry) }
 {
     is_rival_there(line, before) || is_rival_there(line, after)
 }
 
 // Whether a line, if there is one, is an epoch of the channel's station that contains the channel's.
 fn holds_channel_there(channel: &Line, other: Option<&Line>) -> bool
-    ensures { result ≡ passes_there (holds_channel (seen channel.now)) other.entry }
+    ensures { result ≡ passes_there (holds_channel (values_of_line channel.now)) other.entry }
 {
     match other {
         Some(other) => holds_channel(channel, other),
@@ -103,7 +105,7 @@ fn holds_channel_there(channel: &Line, other: Option<&Line>) -> bool
 
 // Whether a line, if there is one, is an epoch of the station's network that contains the station's.
 fn holds_station_there(station: &Line, other: Option<&Line>) -> bool
-    ensures { result ≡ passes_there (holds_station (seen station.now)) other.entry }
+    ensures { result ≡ passes_there (holds_station (values_of_line station.now)) other.entry }
 {
     match other {
         Some(other) => holds_station(station, other),
@@ -113,10 +115,10 @@ fn holds_station_there(station: &Line, other: Option<&Line>) -> bool
 
 // The key before those of all grants of a user.
 fn grants_key(user: &[u8]) -> KeyView<'_>
-    ensures { view_seen result ≡ grants_key user.now }
+    ensures { parts_of_view result ≡ grants_key user.now }
 {
     KeyView {
-        rank: GRANT,
+        kind: KeyKind::Grant,
         first: user,
         second: &[],
         third: &[],
@@ -138,9 +140,9 @@ fn is_grant_there(user: &[u8], other: Option<&Line>) -> bool
 
 // The end of what a line leaves of the epoch of its key; a deletion leaves none.
 fn new_end(line: &Line) -> Option<i64>
-    ensures { result ≡ new_end (seen line.now) }
+    ensures { result ≡ new_end (values_of_line line.now) }
 {
-    if says(line) {
+    if is_said(line) {
         end(line)
     } else {
         Some(key_view(line).start)
@@ -169,7 +171,7 @@ impl<'a> Outline<'a> {
     fn has_rival(&self, line: &'a Line) -> bool
         requires outline { IsOutline self.now }
         requires catalog { IsCatalog (outlined self.now) }
-        ensures { result ≡ has_rival (outlined self.now) (seen line.now) }
+        ensures { result ≡ has_rival (outlined self.now) (values_of_line line.now) }
     {
         let key = key_view(line);
         is_epoch(line)
@@ -184,7 +186,7 @@ impl<'a> Outline<'a> {
     fn lacks_station(&self, line: &'a Line) -> bool
         requires outline { IsOutline self.now }
         requires catalog { IsCatalog (outlined self.now) }
-        ensures { result ≡ lacks_station (outlined self.now) (seen line.now) }
+        ensures { result ≡ lacks_station (outlined self.now) (values_of_line line.now) }
     {
         is_channel(line) && !holds_channel_there(line, last_up_to(&self.lines, station_key(line)))
     }
@@ -193,7 +195,7 @@ impl<'a> Outline<'a> {
     fn lacks_network(&self, line: &'a Line) -> bool
         requires outline { IsOutline self.now }
         requires catalog { IsCatalog (outlined self.now) }
-        ensures { result ≡ lacks_network (outlined self.now) (seen line.now) }
+        ensures { result ≡ lacks_network (outlined self.now) (values_of_line line.now) }
     {
         is_station(line) && !holds_station_there(line, last_up_to(&self.lines, network_key(line)))
     }
@@ -202,7 +204,7 @@ impl<'a> Outline<'a> {
     fn lacks_user(&self, line: &'a Line) -> bool
         requires outline { IsOutline self.now }
         requires catalog { IsCatalog (outlined self.now) }
-        ensures { result ≡ lacks_user (outlined self.now) (seen line.now) }
+        ensures { result ≡ lacks_user (outlined self.now) (values_of_line line.now) }
     {
         is_grant(line) && !self.lines.contains_key(&user_key(line))
     }
@@ -210,7 +212,7 @@ impl<'a> Outline<'a> {
     // Whether the line's key is live.
     fn is_live(&self, line: &'a Line) -> bool
         requires outline { IsOutline self.now }
-        ensures { result ≡ list_any (have_one_key (seen line.now)) (outlined self.now) }
+        ensures { result ≡ list_any (have_one_key (values_of_line line.now)) (outlined self.now) }
     {
         self.lines.contains_key(&key_view(line))
     }
@@ -218,16 +220,16 @@ impl<'a> Outline<'a> {
     // Whether the line deletes what isn't live.
     fn deletes_nothing(&self, line: &'a Line) -> bool
         requires outline { IsOutline self.now }
-        ensures { result ≡ deletes_nothing (outlined self.now) (seen line.now) }
+        ensures { result ≡ deletes_nothing (outlined self.now) (values_of_line line.now) }
     {
-        !says(line) && !self.is_live(line)
+        !is_said(line) && !self.is_live(line)
     }
 
     // The first rule that a line breaks by itself.
     fn own_rule(&self, line: &'a Line) -> Option<Rule>
         requires outline { IsOutline self.now }
         requires catalog { IsCatalog (outlined self.now) }
-        ensures { result ≡ own_rule (outlined self.now) (seen line.now) }
+        ensures { result ≡ own_rule (outlined self.now) (values_of_line line.now) }
     {
         if self.has_rival(line) {
             Some(Rule::Overlap)
@@ -248,7 +250,7 @@ impl<'a> Outline<'a> {
     fn operators_replaced(&self, line: &'a Line) -> usize
         requires outline { IsOutline self.now }
         requires catalog { IsCatalog (outlined self.now) }
-        ensures { result ≡ (if list_any (λ l. have_one_key (seen line.now) l && is_operator l) (outlined self.now) then 1 else 0) }
+        ensures { result ≡ (if list_any (λ l. have_one_key (values_of_line line.now) l && is_operator l) (outlined self.now) then 1 else 0) }
     {
         count_operator_there(line_at(&self.lines, key_view(line)))
     }
@@ -257,7 +259,7 @@ impl<'a> Outline<'a> {
     fn lacks_operator(&self, line: &'a Line) -> bool
         requires outline { IsOutline self.now }
         requires catalog { IsCatalog (outlined self.now) }
-        ensures { result ≡ not (list_any is_operator (with_line (outlined self.now) (seen line.now))) }
+        ensures { result ≡ not (list_any is_operator (with_line (outlined self.now) (values_of_line line.now))) }
     {
         let others = self.index.operators - self.operators_replaced(line);
         others == 0 && count_operator(line) == 0
@@ -267,18 +269,18 @@ impl<'a> Outline<'a> {
     fn are_too_many(&self, line: &'a Line) -> bool
         requires outline { IsOutline self.now }
         requires catalog { IsCatalog (outlined self.now) }
-        ensures { result ≡ nat_lt most_lines (length (with_line (outlined self.now) (seen line.now))) }
+        ensures { result ≡ nat_lt most_lines (length (with_line (outlined self.now) (values_of_line line.now))) }
     {
         let others = self.lines.len() - one_if(self.is_live(line));
-        others + one_if(says(line)) > MOST_LINES
+        others + one_if(is_said(line)) > MOST_LINES
     }
 
     // Whether the line cuts an epoch of that kind in a container of these codes: it ends behind the line's
     // new end, and no later than the old one.
-    fn cuts(&self, line: &'a Line, kind: u8, first: KeyCode, second: KeyCode) -> bool
+    fn cuts(&self, line: &'a Line, kind: KeyKind, first: KeyCode, second: KeyCode) -> bool
         requires outline { IsOutline self.now }
         requires catalog { IsCatalog (outlined self.now) }
-        ensures { result ≡ list_any (λ x. is_child x && is_cut_in kind first second (outlined self.now) (seen line.now) x) (outlined self.now) }
+        ensures { result ≡ list_any (λ x. is_child x && is_cut_in (key_rank kind) first second (outlined self.now) (values_of_line line.now) x) (outlined self.now) }
     {
         let Some(old) = line_at(&self.lines, key_view(line)) else {
             return false;
@@ -301,17 +303,17 @@ impl<'a> Outline<'a> {
     fn loses_grants(&self, line: &'a Line) -> bool
         requires outline { IsOutline self.now }
         requires catalog { IsCatalog (outlined self.now) }
-        ensures { result ≡ loses_grants (outlined self.now) (seen line.now) }
+        ensures { result ≡ loses_grants (outlined self.now) (values_of_line line.now) }
     {
         let key = key_view(line);
-        key.rank == USER && !says(line) && self.has_grant(key.first)
+        key.kind == KeyKind::User && !is_said(line) && self.has_grant(key.first)
     }
 
     // Whether with the line some live line lacks its container or its user.
     fn makes_orphans(&self, line: &'a Line) -> bool
         requires outline { IsOutline self.now }
         requires catalog { IsCatalog (outlined self.now) }
-        ensures { result ≡ makes_orphans (outlined self.now) (seen line.now) }
+        ensures { result ≡ makes_orphans (outlined self.now) (values_of_line line.now) }
     {
         match container_of(line) {
             Some(container) => {
@@ -325,8 +327,8 @@ impl<'a> Outline<'a> {
     fn common_rule(&self, line: &'a Line) -> Option<Rule>
         requires outline { IsOutline self.now }
         requires catalog { IsCatalog (outlined self.now) }
-        requires none { own_rule (outlined self.now) (seen line.now) ≡ None }
-        ensures { result ≡ common_rule (with_line (outlined self.now) (seen line.now)) }
+        requires none { own_rule (outlined self.now) (values_of_line line.now) ≡ None }
+        ensures { result ≡ common_rule (with_line (outlined self.now) (values_of_line line.now)) }
     {
         if self.makes_orphans(line) {
             Some(Rule::Orphans)
@@ -343,7 +345,7 @@ impl<'a> Outline<'a> {
     pub fn broken_rule(&self, line: &'a Line) -> Option<Rule>
         requires outline { IsOutline self.now }
         requires catalog { IsCatalog (outlined self.now) }
-        ensures { result ≡ broken_rule (outlined self.now) (seen line.now) }
+        ensures { result ≡ broken_rule (outlined self.now) (values_of_line line.now) }
     {
         match self.own_rule(line) {
             Some(rule) => Some(rule),

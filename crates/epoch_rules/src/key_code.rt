@@ -16,15 +16,15 @@ pub struct KeyCode {
 
 impl Model for KeyCode {
     ghost use Rattle.std.specs.Prelude.{List, ℕ};
-    ghost use Rattle.epoch_rules.specs.Codes.{text_of, code_of, IsFilled, code_again};
+    ghost use Rattle.epoch_rules.specs.Codes.{text_of_code, code_of_text, IsNotEmpty, code_again};
 
     ghost Value = { List ℕ };
 
-    ghost view = { λ k. text_of k.code };
+    ghost view = { λ k. text_of_code k.code };
 
-    ghost invariant = { λ k. IsFilled k.code };
+    ghost invariant = { λ k. IsNotEmpty k.code };
 
-    ghost inverse = { λ text. record { code = code_of text } };
+    ghost inverse = { λ text. record { code = code_of_text text } };
 
     ghost inverse_ok = { λ k h i. record { code = code_again k.code h i } };
 }

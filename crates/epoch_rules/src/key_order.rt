@@ -1,40 +1,20 @@
 //! The order of lines by their keys.
 ghost use Rattle.std.specs.Prelude.{◌≡◌, [], pos};
-ghost use Rattle.epochs.specs.Keys.{key_seen};
-ghost use Rattle.epochs.specs.Views.{seen};
-ghost use Rattle.epoch_rules.specs.KeyOrder.{key_parts, parts_of, entry_cmp};
-ghost use Rattle.epoch_rules.specs.KeyViews.{view_seen, view_of};
+ghost use Rattle.epochs.specs.Keys.{values_of_key};
+ghost use Rattle.epochs.specs.Views.{values_of_line};
+ghost use Rattle.epoch_rules.specs.KeyKinds.{key_rank};
+ghost use Rattle.epoch_rules.specs.KeyOrder.{key_parts, key_parts_of, line_cmp};
+ghost use Rattle.epoch_rules.specs.KeyViews.{parts_of_view, view_of};
 
+use crate::key_kind::KeyKind;
 use epochs::{Glob, Key, Line};
 use exact_time::Moment;
 use std::cmp::Ordering;
 
-/// The rank of networks: the first of the kinds (`rank_of` of `specs/KeyOrder.antt`).
-pub const NETWORK: u8 = 0;
-
-/// The rank of stations.
-pub const STATION: u8 = 1;
-
-/// The rank of channels.
-pub const CHANNEL: u8 = 2;
-
-/// The rank of events.
-pub const EVENT: u8 = 3;
-
-/// The rank of restrictions.
-pub const RESTRICTION: u8 = 4;
-
-/// The rank of grants.
-pub const GRANT: u8 = 5;
-
-/// The rank of users: the last of the kinds.
-pub const USER: u8 = 6;
-
 /// The parts of a key that are compared, in the order of `specs/KeyOrder.antt`.
 #[derive(Clone, Copy, Debug, PartialEq, Eq, PartialOrd, Ord)]
 pub struct KeyView<'a> {
-    /// The place of the kind among the kinds, from 0.
-    pub rank: u8,
+    pub kind: KeyKind,
     pub first: &'a [u8],
     pub second: &'a [u8],
     pub third: &'a [u8],
@@ -45,11 +25,11 @@ pub struct KeyView<'a> {
 }
 
 // The key of one text, without a start.
-fn named<'a>(rank: u8, name: &'a [u8]) -> KeyView<'a>
-    ensures { view_seen result ≡ view_of rank name.now [] [] [] [] (pos 0) }
+fn named<'a>(kind: KeyKind, name: &'a [u8]) -> KeyView<'a>
+    ensures { parts_of_view result ≡ view_of (key_rank kind) name.now [] [] [] [] (pos 0) }
 {
     KeyView {
-        rank,
+        kind,
         first: name,
         second: &[],
         third: &[],
@@ -61,17 +41,17 @@ fn named<'a>(rank: u8, name: &'a [u8]) -> KeyView<'a>
 
 // The key of an epoch of these codes.
 fn epoch<'a>(
-    rank: u8,
+    kind: KeyKind,
     network: &'a [u8],
     station: &'a [u8],
     location: &'a [u8],
     channel: &'a [u8],
     start: Moment,
 ) -> KeyView<'a>
-    ensures { view_seen result ≡ view_of rank network.now station.now location.now channel.now [] start.micros }
+    ensures { parts_of_view result ≡ view_of (key_rank kind) network.now station.now location.now channel.now [] start.micros }
 {
     KeyView {
-        rank,
+        kind,
         first: network,
         second: station,
         third: location,
@@ -90,10 +70,10 @@ fn grant<'a>(
     channel: &'a Glob,
     start: Moment,
 ) -> KeyView<'a>
-    ensures { view_seen result ≡ view_of 5 user.now network.now.text station.now.text location.now.text channel.now.text start.micros }
+    ensures { parts_of_view result ≡ view_of 5 user.now network.now.text station.now.text location.now.text channel.now.text start.micros }
 {
     KeyView {
-        rank: GRANT,
+        kind: KeyKind::Grant,
         first: user,
         second: network.text.as_slice(),
         third: station.text.as_slice(),
@@ -105,16 +85,23 @@ fn grant<'a>(
 
 // A key as it is compared.
 fn deleted(key: &Key) -> KeyView<'_>
-    ensures { view_seen result ≡ key_parts (key_seen key.now) }
+    ensures { parts_of_view result ≡ key_parts (values_of_key key.now) }
 {
     match key {
-        Key::Net { network, start } => epoch(NETWORK, network.as_slice(), &[], &[], &[], *start),
+        Key::Net { network, start } => epoch(
+            KeyKind::Network,
+            network.as_slice(),
+            &[],
+            &[],
+            &[],
+            *start,
+        ),
         Key::Sta {
             network,
             station,
             start,
         } => epoch(
-            STATION,
+            KeyKind::Station,
             network.as_slice(),
             station.as_slice(),
             &[],
@@ -122,14 +109,14 @@ fn deleted(key: &Key) -> KeyView<'_>
             *start,
         ),
         Key::Cha { name, start } => epoch(
-            CHANNEL,
+            KeyKind::Channel,
             name.network.as_slice(),
             name.station.as_slice(),
             name.location.as_slice(),
             name.channel.as_slice(),
             *start,
         ),
-        Key::Evt { id } => named(EVENT, id.as_slice()),
+        Key::Evt { id } => named(KeyKind::Event, id.as_slice()),
         Key::Rst {
             network,
             station,
@@ -137,7 +124,7 @@ fn deleted(key: &Key) -> KeyView<'_>
             channel,
             start,
         } => epoch(
-            RESTRICTION,
+            KeyKind::Restriction,
             network.text.as_slice(),
             station.text.as_slice(),
             location.text.as_slice(),
@@ -152,18 +139,25 @@ fn deleted(key: &Key) -> KeyView<'_>
             channel,
             start,
         } => grant(user.as_slice(), network, station, location, channel, *start),
-        Key::Usr { name } => named(USER, name.as_slice()),
+        Key::Usr { name } => named(KeyKind::User, name.as_slice()),
     }
 }
 
 /// The key of a line, as it is compared; of a deletion that which it deletes.
 pub fn key_view(line: &Line) -> KeyView<'_>
-    ensures { view_seen result ≡ parts_of (seen line.now) }
+    ensures { parts_of_view result ≡ key_parts_of (values_of_line line.now) }
 {
     match line {
-        Line::Net(net) => epoch(NETWORK, net.network.as_slice(), &[], &[], &[], net.start),
+        Line::Net(net) => epoch(
+            KeyKind::Network,
+            net.network.as_slice(),
+            &[],
+            &[],
+            &[],
+            net.start,
+        ),
         Line::Sta(sta) => epoch(
-            STATION,
+            KeyKind::Station,
             sta.network.as_slice(),
             sta.station.as_slice(),
             &[],
@@ -171,16 +165,16 @@ pub fn key_view(line: &Line) -> KeyView<'_>
             sta.start,
         ),
         Line::Cha(cha) => epoch(
-            CHANNEL,
+            KeyKind::Channel,
             cha.name.network.as_slice(),
             cha.name.station.as_slice(),
             cha.name.location.as_slice(),
             cha.name.channel.as_slice(),
             cha.start,
         ),
-        Line::Evt(event) => named(EVENT, event.id.as_slice()),
+        Line::Evt(event) => named(KeyKind::Event, event.id.as_slice()),
         Line::Rst(rst) => epoch(
-            RESTRICTION,
+            KeyKind::Restriction,
             rst.network.text.as_slice(),
             rst.station.text.as_slice(),
             rst.location.text.as_slice(),
@@ -195,14 +189,14 @@ pub fn key_view(line: &Line) -> KeyView<'_>
             &grt.channel,
             grt.start,
         ),
-        Line::Usr(user) => named(USER, user.name.as_slice()),
+        Line::Usr(user) => named(KeyKind::User, user.name.as_slice()),
         Line::Del(deletion) => deleted(&deletion.key),
     }
 }
 
 /// Lines by their keys.
 pub fn cmp_keys(a: &Line, b: &Line) -> Ordering
-    ensures { result ≡ entry_cmp (seen a.now) (seen b.now) }
+    ensures { result ≡ line_cmp (values_of_line a.now) (values_of_line b.now) }
 {
     key_view(a).cmp(&key_view(b))
 }

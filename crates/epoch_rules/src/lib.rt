@@ -4,7 +4,7 @@
 //! live lines with those before it (`AreKept` of `specs/Kept.antt`), and else the first line that breaks a
 //! rule, and the first rule that it breaks (`IsFirstBroken`). It asks that the live lines are a catalog
 //! (`IsCatalog` of `specs/Catalog.antt`): keys rise, no line is a deletion, no epoch overlaps another of its
-//! codes, and each line has what it rests on. It is passed their [`Index`] (`IsIndex` of `specs/Indexes.antt`),
+//! codes, and each line has what it rests on. It is passed their [`Index`] (`IsCatalogIndex` of `specs/Indexes.antt`),
 //! which the crate above keeps beside them: how many operators there are, and the ends of stations and channels
 //! in order. [`Index::after`] is that of the live lines after some lines more.
 //!
@@ -26,6 +26,7 @@ mod endings;
 mod index;
 mod judging;
 mod key_code;
+mod key_kind;
 mod key_order;
 mod neighbours;
 mod outline;
@@ -36,6 +37,7 @@ mod spans;
 pub use check::check_lines;
 pub use check_law::lines_are_kept_or_one_is_the_first_broken;
 pub use index::Index;
-pub use key_order::{CHANNEL, KeyView, NETWORK, STATION, USER, cmp_keys, key_view};
-pub use relations::says;
+pub use key_kind::KeyKind;
+pub use key_order::{KeyView, cmp_keys, key_view};
+pub use relations::is_said;
 pub use rule::{CheckFault, Rule};

@@ -1,9 +1,9 @@
 //! Lines by their keys, and which stand next to a key.
 ghost use Rattle.std.specs.Prelude.{◌≡◌, filter, map, IfOk};
 ghost use Rattle.std.specs.List.Sorted.{IsStrictlySortedBy};
-ghost use Rattle.epochs.specs.Views.{seen};
-ghost use Rattle.epoch_rules.specs.KeyOrder.{entry_cmp};
-ghost use Rattle.epoch_rules.specs.KeyViews.{view_seen};
+ghost use Rattle.epochs.specs.Views.{values_of_line};
+ghost use Rattle.epoch_rules.specs.KeyOrder.{line_cmp};
+ghost use Rattle.epoch_rules.specs.KeyViews.{parts_of_view};
 ghost use Rattle.epoch_rules.specs.Neighbours.{is_at_key, is_below_key, is_up_to_key, is_above_key, is_from_key, IsLastOf, IsFirstOf};
 ghost use Rattle.epoch_rules.specs.MapLines.{lines_in, AreKeyed};
 
@@ -19,8 +19,8 @@ pub type LinesByKey<'a> = BTreeMap<KeyView<'a>, &'a Line>;
 
 /// Lines that are in the order of their keys, by their keys.
 pub fn lines_by_key<'a>(alloc: Global, lines: &'a [Line]) -> Result<LinesByKey<'a>, OutOfMemory>
-    requires { IsStrictlySortedBy entry_cmp (map seen lines.now) }
-    ensures lines { IfOk result (λ by_key. lines_in by_key ≡ map seen lines.now) }
+    requires { IsStrictlySortedBy line_cmp (map values_of_line lines.now) }
+    ensures lines { IfOk result (λ by_key. lines_in by_key ≡ map values_of_line lines.now) }
     ensures keyed { IfOk result AreKeyed }
 {
     let by_key = lines
@@ -33,7 +33,7 @@ pub fn lines_by_key<'a>(alloc: Global, lines: &'a [Line]) -> Result<LinesByKey<'
 /// The line of a key.
 pub fn line_at<'a>(lines: &LinesByKey<'a>, key: KeyView<'a>) -> Option<&'a Line>
     requires { AreKeyed lines.now }
-    ensures { IsFirstOf (filter (is_at_key (view_seen key.entry)) (lines_in lines.now)) result }
+    ensures { IsFirstOf (filter (is_at_key (parts_of_view key.entry)) (lines_in lines.now)) result }
 {
     lines.get(&key).copied()
 }
@@ -41,7 +41,7 @@ pub fn line_at<'a>(lines: &LinesByKey<'a>, key: KeyView<'a>) -> Option<&'a Line>
 /// The last line before a key.
 pub fn last_before<'a>(lines: &LinesByKey<'a>, key: KeyView<'a>) -> Option<&'a Line>
     requires { AreKeyed lines.now }
-    ensures { IsLastOf (filter (is_below_key (view_seen key.entry)) (lines_in lines.now)) result }
+    ensures { IsLastOf (filter (is_below_key (parts_of_view key.entry)) (lines_in lines.now)) result }
 {
     match lines.range(..key).next_back() {
         Some((_, line)) => Some(*line),
@@ -52,7 +52,7 @@ pub fn last_before<'a>(lines: &LinesByKey<'a>, key: KeyView<'a>) -> Option<&'a L
 /// The last line whose key isn't after that one.
 pub fn last_up_to<'a>(lines: &LinesByKey<'a>, key: KeyView<'a>) -> Option<&'a Line>
     requires { AreKeyed lines.now }
-    ensures { IsLastOf (filter (is_up_to_key (view_seen key.entry)) (lines_in lines.now)) result }
+    ensures { IsLastOf (filter (is_up_to_key (parts_of_view key.entry)) (lines_in lines.now)) result }
 {
     match lines.range(..=key).next_back() {
         Some((_, line)) => Some(*line),
@@ -63,7 +63,7 @@ pub fn last_up_to<'a>(lines: &LinesByKey<'a>, key: KeyView<'a>) -> Option<&'a Li
 /// The first line after a key.
 pub fn first_after<'a>(lines: &LinesByKey<'a>, key: KeyView<'a>) -> Option<&'a Line>
     requires { AreKeyed lines.now }
-    ensures { IsFirstOf (filter (is_above_key (view_seen key.entry)) (lines_in lines.now)) result }
+    ensures { IsFirstOf (filter (is_above_key (parts_of_view key.entry)) (lines_in lines.now)) result }
 {
     match lines.range((Bound::Excluded(key), Bound::Unbounded)).next() {
         Some((_, line)) => Some(*line),
@@ -74,7 +74,7 @@ pub fn first_after<'a>(lines: &LinesByKey<'a>, key: KeyView<'a>) -> Option<&'a L
 /// The first line whose key isn't before that one.
 pub fn first_from<'a>(lines: &LinesByKey<'a>, key: KeyView<'a>) -> Option<&'a Line>
     requires { AreKeyed lines.now }
-    ensures { IsFirstOf (filter (is_from_key (view_seen key.entry)) (lines_in lines.now)) result }
+    ensures { IsFirstOf (filter (is_from_key (parts_of_view key.entry)) (lines_in lines.now)) result }
 {
     match lines.range(key..).next() {
         Some((_, line)) => Some(*line),

@@ -1,7 +1,7 @@
 //! When the epochs of lines start and end, and how two of them lie.
 ghost use Rattle.std.specs.Prelude.{◌≡◌, option_map};
 ghost use Rattle.epochs.specs.Lines.{end_of};
-ghost use Rattle.epochs.specs.Views.{seen};
+ghost use Rattle.epochs.specs.Views.{values_of_line};
 ghost use Rattle.epoch_rules.specs.Rules.{epoch_start, is_before_end, ends_by, overlap, contains};
 
 use crate::key_order::key_view;
@@ -10,7 +10,7 @@ use exact_time::Moment;
 
 /// When a line's epoch starts, in microseconds; an event's time, and 0 where there is neither.
 pub fn start(line: &Line) -> i64
-    ensures { result ≡ epoch_start (seen line.now) }
+    ensures { result ≡ epoch_start (values_of_line line.now) }
 {
     match line {
         Line::Net(net) => net.start.micros,
@@ -36,7 +36,7 @@ fn micros(end: Option<Moment>) -> Option<i64>
 
 /// When a line's epoch ends, in microseconds, if it does.
 pub fn end(line: &Line) -> Option<i64>
-    ensures { result ≡ end_of (seen line.now).values }
+    ensures { result ≡ end_of (values_of_line line.now).values }
 {
     match line {
         Line::Net(net) => micros(net.end),
@@ -73,14 +73,14 @@ fn ends_by(end: Option<i64>, other: Option<i64>) -> bool
 
 /// Whether each of two epochs starts before the other's end.
 pub fn overlap(a: &Line, b: &Line) -> bool
-    ensures { result ≡ overlap (seen a.now) (seen b.now) }
+    ensures { result ≡ overlap (values_of_line a.now) (values_of_line b.now) }
 {
     is_before_end(start(a), end(b)) && is_before_end(start(b), end(a))
 }
 
 /// Whether the first epoch starts no later and ends no earlier than the second.
 pub fn contains(outer: &Line, inner: &Line) -> bool
-    ensures { result ≡ contains (seen outer.now) (seen inner.now) }
+    ensures { result ≡ contains (values_of_line outer.now) (values_of_line inner.now) }
 {
     start(outer) <= start(inner) && ends_by(end(inner), end(outer))
 }

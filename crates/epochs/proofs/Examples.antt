@@ -8,14 +8,14 @@ use Rattle.std.proofs.lemmas.Bool.{and_parts, ltb-true}
 use Rattle.std.proofs.lemmas.Str.{IsUtf8-from_ascii, chars-IsAscii}
 use Rattle.std.proofs.lemmas.Str.Ascii.{IsAscii-nil, IsAscii-cons}
 use Rattle.channel_globs.specs.declared.nslc.Part.TheVariants.{Network, Location}
-use Rattle.epochs.specs.declared.kinds.Kind.TheVariants.{Net, Cha, Evt, Grt}
+use Rattle.epochs.specs.declared.kinds.LineKind.TheVariants.{Net, Cha, Evt, Grt}
 use Rattle.epochs.specs.declared.kinds.Head.TheVariants.{Says, Deletes}
 use Rattle.epochs.specs.declared.quantity.Quantity.TheVariants.{Azimuth}
 use Rattle.epochs.specs.declared.fault.LineFault.TheVariants as fault
 use Rattle.epochs.specs.declared.fault.RevisionFault.TheVariants as revision
 use Rattle.epochs.specs.Kinds.{Text, EventId, kinds_in, key_fields, fields_behind}
 use Rattle.epochs.specs.Fields.{code, words, time, end, IsQuantity, code_of, is_words, is_event_id, is_user_name, is_ha1, roles_of}
-use Rattle.epochs.specs.Lines.{entry, IsPlain, IsLine, IsLineFault, SpellsNone, is_skipped, texts_of, IsInOrder}
+use Rattle.epochs.specs.Lines.{line_values, IsPlain, IsLine, IsLineFault, SpellsNone, is_skipped, texts_of, IsInOrder}
 use Rattle.epochs.specs.Keys.{key_values, key_of}
 use Rattle.epochs.specs.Revisions.{said_in, IsRevision, IsRevisionFault}
 use Rattle.epochs.proofs.OneField.{spells}
@@ -105,7 +105,7 @@ plain_ascii : (text : Text) → length text ≤ 4000 → list_all (λ c. nat_lt 
 plain_ascii text short low printable = record { short = short; utf8 = IsUtf8-from_ascii text (ascii text low); printable = ap (list_any is_control) (chars-IsAscii text (ascii text low)) ∙ printable }
 
 -- a deletion, and the key that it ends
-deletion : IsLine (codes "DEL|EVT|7") (entry (Deletes Evt) (words (codes "7") ∷ []))
+deletion : IsLine (codes "DEL|EVT|7") (line_values (Deletes Evt) (words (codes "7") ∷ []))
 deletion = record {
   rest = codes "7" ∷ [];
   has_head = record { is_plain = plain_ascii (codes "DEL|EVT|7") (omega arith) refl refl; split = refl };
@@ -113,10 +113,10 @@ deletion = record {
   in_order = tt;
 }
 
-event_key : key_of (entry (Deletes Evt) (words (codes "7") ∷ [])) ≡ key_values Evt (words (codes "7") ∷ [])
+event_key : key_of (line_values (Deletes Evt) (words (codes "7") ∷ [])) ≡ key_values Evt (words (codes "7") ∷ [])
 event_key = refl
 
-network_key : key_of (entry (Says Net) (code (codes "IU") ∷ words [] ∷ time (pos 1) ∷ end None ∷ [])) ≡ key_values Net (code (codes "IU") ∷ time (pos 1) ∷ [])
+network_key : key_of (line_values (Says Net) (code (codes "IU") ∷ words [] ∷ time (pos 1) ∷ end None ∷ [])) ≡ key_values Net (code (codes "IU") ∷ time (pos 1) ∷ [])
 network_key = refl
 
 -- no text is no id, in field 3
@@ -135,17 +135,17 @@ bad_id = record {
 }
 
 -- no such kind, also behind DEL
-no_kind : IsLineFault (codes "FOO|1") fault.Kind
+no_kind : IsLineFault (codes "FOO|1") fault.LineKind
 no_kind = record { is_plain = plain_ascii (codes "FOO|1") (omega arith) refl refl; none = no_head (texts_of (codes "FOO|1")) refl }
 
-no_kind_behind : IsLineFault (codes "DEL") fault.Kind
+no_kind_behind : IsLineFault (codes "DEL") fault.LineKind
 no_kind_behind = record { is_plain = plain_ascii (codes "DEL") (omega arith) refl refl; none = no_head (texts_of (codes "DEL")) refl }
 
-first_line : IsRevisionFault (codes "FOO|1") (revision.Bad 1 fault.Kind)
-first_line = record { before = []; here = codes "FOO|1"; after = []; split = refl; number_is = refl; entries = []; clean = tt; said = refl; bad = no_kind }
+first_line : IsRevisionFault (codes "FOO|1") (revision.Bad 1 fault.LineKind)
+first_line = record { before = []; here = codes "FOO|1"; after = []; split = refl; number_is = refl; spelled = []; clean = tt; said = refl; bad = no_kind }
 
 silence : IsRevisionFault (codes "#") (revision.Bad 1 fault.NoLine)
 silence = (refl, refl)
 
-one_deletion : IsRevision (codes "DEL|EVT|7") (entry (Deletes Evt) (words (codes "7") ∷ []) ∷ [])
-one_deletion = record { each = (deletion, tt); some = λ e. let f : entry (Deletes Evt) (words (codes "7") ∷ []) ∷ [] ≡ [] = e in cc }
+one_deletion : IsRevision (codes "DEL|EVT|7") (line_values (Deletes Evt) (words (codes "7") ∷ []) ∷ [])
+one_deletion = record { each = (deletion, tt); some = λ e. let f : line_values (Deletes Evt) (words (codes "7") ∷ []) ∷ [] ≡ [] = e in cc }

@@ -11,13 +11,13 @@ use Rattle.channel_globs.specs.PatternText.{RefusesList, IsListFault}
 use Rattle.channel_globs.proofs.OneList.{no_list}
 use Rattle.epochs.specs.declared.quantity.Quantity.{Quantity}
 use Rattle.epochs.specs.declared.fault.LineFault.TheVariants as fault
-use Rattle.epochs.specs.declared.values.ReadFault.{ReadFault}
-use Rattle.epochs.specs.declared.values.ReadFault.TheVariants as read
-use Rattle.epochs.specs.declared.values.ReadFault.TheVariants.{Bad}
+use Rattle.epochs.specs.declared.values.FieldFault.{FieldFault}
+use Rattle.epochs.specs.declared.values.FieldFault.TheVariants as read
+use Rattle.epochs.specs.declared.values.FieldFault.TheVariants.{Bad}
 use Rattle.epochs.specs.Kinds.{Text, Required, Optional, PatternsOf}
 use Rattle.epochs.specs.Fields.{number, IsNumber, IsOptional, IsQuantity}
 use Rattle.epochs.specs.Lines.{SpellsNone}
-use Rattle.epochs.specs.Reading.{RefusesField, list_fault}
+use Rattle.epochs.specs.Reading.{RefusesField, field_list_fault}
 use Rattle.epochs.proofs.OneField.{spells, one_number}
 
 pub list_any-map : {X Y : Type 0} (p : X → Bool) (f : Y → X) (ys : List Y) → list_any p (map f ys) ≡ list_any (λ y. p (f y)) ys
@@ -43,7 +43,7 @@ nothing_or_number : (quantity : Quantity) (text : Text) (n : Option ℤ) → ¬ 
 nothing_or_number quantity text None some none h = some h
 nothing_or_number quantity text (Some n) some none h = none (number n) h
 
-pub optional_refused : (quantity : Quantity) (number : ℕ) (text : Text) (why : ReadFault) → ¬ (text ≡ []) → RefusesField (Required quantity) number text why → RefusesField (Optional quantity) number text why
+pub optional_refused : (quantity : Quantity) (number : ℕ) (text : Text) (why : FieldFault) → ¬ (text ≡ []) → RefusesField (Required quantity) number text why → RefusesField (Optional quantity) number text why
 optional_refused quantity at text (Bad (fault.Value n)) some h = (h.0, λ value k. let s = spells (Optional quantity) text value k in nothing_or_number quantity text s.0 some h.1 s.1)
 optional_refused quantity at text read.OutOfMemory some h = tt
 optional_refused quantity at text (Bad _) some h = h
@@ -51,7 +51,7 @@ optional_refused quantity at text (Bad _) some h = h
 spells_no_list : (part : Part) (text : Text) (why : GlobFault) → IsListFault part text why → SpellsNone (PatternsOf part) text
 spells_no_list part text why h value k = let s = spells (PatternsOf part) text value k in no_list part text s.0 why s.1 h
 
-pub list_refused : (part : Part) (number : ℕ) (text : Text) (why : GlobFault) → RefusesList part text why → RefusesField (PatternsOf part) number text (list_fault number why)
+pub list_refused : (part : Part) (number : ℕ) (text : Text) (why : GlobFault) → RefusesList part text why → RefusesField (PatternsOf part) number text (field_list_fault number why)
 list_refused part at text TooMany h = (refl, spells_no_list part text TooMany h)
 list_refused part at text Character h = (refl, spells_no_list part text Character h)
 list_refused part at text Length h = (refl, spells_no_list part text Length h)

@@ -1,4 +1,4 @@
-pub mod EntryWord
+pub mod SpellableWord
 pub mod Examples
 pub mod FieldSteps
 pub mod LadderSteps

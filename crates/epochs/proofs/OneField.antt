@@ -18,7 +18,7 @@ use Rattle.epochs.specs.declared.quantity.Quantity.{Quantity}
 use Rattle.epochs.specs.declared.quantity.Quantity.TheVariants.{Latitude, Longitude, Azimuth, Dip, Rate, Measure}
 use Rattle.epochs.specs.Kinds.{Text, FieldKind, CodeOf, Words, Time, End, Required, Optional, PatternsOf, EventId, UserName, Ha1, RoleNames}
 use Rattle.epochs.specs.Fields.{Value, code, words, time, end, number, optional, patterns, roles, IsField, IsEnd, IsNumber, IsOptional, IsQuantity, code_of, is_words, is_event_id, is_user_name, is_ha1, roles_of}
-use Rattle.epochs.specs.Lines.{SpellsNone, CanRead}
+use Rattle.epochs.specs.Lines.{SpellsNone, CanBeField}
 
 -- something has the property, or nothing has
 abbrev pub Found : {V : Type 0} → (V → Type 0) → Type 0
@@ -186,15 +186,15 @@ pub one_value : (kind : FieldKind) (text : Text) (a b : Value) → IsField kind 
 one_value kind text a b h k = one_spelled kind text a b (spells kind text a h) (spells kind text b k)
 
 -- by a test
-by_test : (kind : FieldKind) (text : Text) (b : Bool) → (b ≡ true → CanRead kind text) → ((value : Value) → IsField kind text value → b ≡ true) → CanRead kind text ⊎ SpellsNone kind text
+by_test : (kind : FieldKind) (text : Text) (b : Bool) → (b ≡ true → CanBeField kind text) → ((value : Value) → IsField kind text value → b ≡ true) → CanBeField kind text ⊎ SpellsNone kind text
 by_test kind text b can needs = elim (cases_Bool b) [ inl holds ↦ inl (can holds) | inr none ↦ inr (λ value h. both_ways b none (needs value h)) ]
 
 -- by what is found
-by_found : {V : Type 0} (kind : FieldKind) (text : Text) (P : V → Type 0) → Found P → ((v : V) → P v → CanRead kind text) → ((value : Value) → IsField kind text value → (v : V) × P v) → CanRead kind text ⊎ SpellsNone kind text
+by_found : {V : Type 0} (kind : FieldKind) (text : Text) (P : V → Type 0) → Found P → ((v : V) → P v → CanBeField kind text) → ((value : Value) → IsField kind text value → (v : V) × P v) → CanBeField kind text ⊎ SpellsNone kind text
 by_found kind text P (inl found) can needs = inl (can found.0 found.1)
 by_found kind text P (inr none) can needs = inr (λ value h. let s = needs value h in none s.0 s.1)
 
-pub field_found : (kind : FieldKind) (text : Text) → CanRead kind text ⊎ SpellsNone kind text
+pub field_found : (kind : FieldKind) (text : Text) → CanBeField kind text ⊎ SpellsNone kind text
 field_found (CodeOf part) text = by_found (CodeOf part) text (λ (c : Text). code_of part text ≡ Some c) (option_found (code_of part text)) (λ c h. (code c, h)) (λ value h. let s = spells (CodeOf part) text value h in (s.0, s.1))
 field_found Words text = by_test Words text (is_words text) (λ h. (words text, (refl, h))) (λ value h. (spells Words text value h).0)
 field_found Time text = by_found Time text (λ (m : ℤ). IsMoment text m) (moment_found text) (λ m h. (time m, h)) (λ value h. let s = spells Time text value h in (s.0, s.1))

@@ -9,55 +9,55 @@ use Rattle.epochs.specs.declared.fault.LineFault.TheVariants as fault
 use Rattle.epochs.specs.declared.fault.RevisionFault.{RevisionFault}
 use Rattle.epochs.specs.declared.fault.RevisionFault.TheVariants as revision
 use Rattle.epochs.specs.Kinds.{Text}
-use Rattle.epochs.specs.Lines.{Entry, IsLine, IsLineFault, is_skipped}
+use Rattle.epochs.specs.Lines.{LineValues, IsLine, IsLineFault, is_skipped}
 use Rattle.epochs.specs.Revisions.{said_in, AreLines, IsRevision, IsFirstBadLine, IsSilent, IsRevisionFault, RefusesRevision}
 use Rattle.epochs.proofs.OneLine.{one_line_answer, line_answer}
 
-one_entry : (text : Text) (a b : Entry) → IsLine text a → IsLine text b → a ≡ b
-one_entry text a b h k = let e : Ok a ≡ Ok b = one_line_answer text (Ok a) (Ok b) h k in cc
+one_line_said : (text : Text) (a b : LineValues) → IsLine text a → IsLine text b → a ≡ b
+one_line_said text a b h k = let e : Ok a ≡ Ok b = one_line_answer text (Ok a) (Ok b) h k in cc
 
 one_fault_of_line : (text : Text) (f g : LineFault) → IsLineFault text f → IsLineFault text g → f ≡ g
 one_fault_of_line text f g h k = let e : Err f ≡ Err g = one_line_answer text (Err f) (Err g) h k in cc
 
-line_or_fault : (text : Text) (e : Entry) (f : LineFault) → IsLine text e → IsLineFault text f → ⊥
+line_or_fault : (text : Text) (e : LineValues) (f : LineFault) → IsLine text e → IsLineFault text f → ⊥
 line_or_fault text e f h k = let same : Ok e ≡ Err f = one_line_answer text (Ok e) (Err f) h k in cc
 
-one_entries : (texts : List Text) (es ds : List Entry) → AreLines texts es → AreLines texts ds → es ≡ ds
-one_entries [] [] [] h k = refl
-one_entries [] [] (d ∷ ds) h k = absurd k
-one_entries [] (e ∷ es) ds h k = absurd h
-one_entries (t ∷ texts) [] ds h k = absurd h
-one_entries (t ∷ texts) (e ∷ es) [] h k = absurd k
-one_entries (t ∷ texts) (e ∷ es) (d ∷ ds) h k =
-    let first = one_entry t e d h.0 k.0 in
-    let others = one_entries texts es ds h.1 k.1 in
+one_lines : (texts : List Text) (es ds : List LineValues) → AreLines texts es → AreLines texts ds → es ≡ ds
+one_lines [] [] [] h k = refl
+one_lines [] [] (d ∷ ds) h k = absurd k
+one_lines [] (e ∷ es) ds h k = absurd h
+one_lines (t ∷ texts) [] ds h k = absurd h
+one_lines (t ∷ texts) (e ∷ es) [] h k = absurd k
+one_lines (t ∷ texts) (e ∷ es) (d ∷ ds) h k =
+    let first = one_line_said t e d h.0 k.0 in
+    let others = one_lines texts es ds h.1 k.1 in
     λ i. first i ∷ others i
 
--- the entries of a front that says something end with those behind its first line
-behind_first : (text : Text) (texts : List Text) (b : Bool) → is_skipped text ≡ b → (entries : List Entry) → AreLines (cond (not b) (text ∷ said_in texts) (said_in texts)) entries → (es : List Entry) × AreLines (said_in texts) es
-behind_first text texts true is entries h = (entries, h)
+-- what the lines of a front that says something spell ends with those behind its first line
+behind_first : (text : Text) (texts : List Text) (b : Bool) → is_skipped text ≡ b → (spelled : List LineValues) → AreLines (cond (not b) (text ∷ said_in texts) (said_in texts)) spelled → (es : List LineValues) × AreLines (said_in texts) es
+behind_first text texts true is spelled h = (spelled, h)
 behind_first text texts false is [] h = absurd h
-behind_first text texts false is (e ∷ entries) h = (entries, h.1)
+behind_first text texts false is (e ∷ spelled) h = (spelled, h.1)
 
-rest_said : (text : Text) (texts : List Text) (entries : List Entry) → AreLines (said_in (text ∷ texts)) entries → (es : List Entry) × AreLines (said_in texts) es
-rest_said text texts entries h = behind_first text texts (is_skipped text) refl entries h
+rest_said : (text : Text) (texts : List Text) (spelled : List LineValues) → AreLines (said_in (text ∷ texts)) spelled → (es : List LineValues) × AreLines (said_in texts) es
+rest_said text texts spelled h = behind_first text texts (is_skipped text) refl spelled h
 
-first_by : (text : Text) (texts : List Text) (b : Bool) → b ≡ false → (entries : List Entry) → AreLines (cond (not b) (text ∷ said_in texts) (said_in texts)) entries → (e : Entry) × IsLine text e
-first_by text texts true e entries h = absurd (both_ways true e refl)
+first_by : (text : Text) (texts : List Text) (b : Bool) → b ≡ false → (spelled : List LineValues) → AreLines (cond (not b) (text ∷ said_in texts) (said_in texts)) spelled → (e : LineValues) × IsLine text e
+first_by text texts true e spelled h = absurd (both_ways true e refl)
 first_by text texts false e [] h = absurd h
-first_by text texts false e (d ∷ entries) h = (d, h.0)
+first_by text texts false e (d ∷ spelled) h = (d, h.0)
 
--- the first line of a front, if it isn't skipped, spells an entry
-first_said : (text : Text) (texts : List Text) (entries : List Entry) → is_skipped text ≡ false → AreLines (said_in (text ∷ texts)) entries → (e : Entry) × IsLine text e
-first_said text texts entries said h = first_by text texts (is_skipped text) said entries h
+-- the first line of a front, if it isn't skipped, spells values
+first_said : (text : Text) (texts : List Text) (spelled : List LineValues) → is_skipped text ≡ false → AreLines (said_in (text ∷ texts)) spelled → (e : LineValues) × IsLine text e
+first_said text texts spelled said h = first_by text texts (is_skipped text) said spelled h
 
--- all lines spell entries, and one has a fault
-all_and_bad : (before : List Text) (here : Text) (after : List Text) (entries : List Entry) (f : LineFault) → AreLines (said_in (before ++ here ∷ after)) entries → is_skipped here ≡ false → IsLineFault here f → ⊥
-all_and_bad [] here after entries f h said bad = let first = first_said here after entries said h in line_or_fault here first.0 f first.1 bad
-all_and_bad (b ∷ before) here after entries f h said bad = let rest = rest_said b (before ++ here ∷ after) entries h in all_and_bad before here after rest.0 f rest.1 said bad
+-- all lines spell values, and one has a fault
+all_and_bad : (before : List Text) (here : Text) (after : List Text) (spelled : List LineValues) (f : LineFault) → AreLines (said_in (before ++ here ∷ after)) spelled → is_skipped here ≡ false → IsLineFault here f → ⊥
+all_and_bad [] here after spelled f h said bad = let first = first_said here after spelled said h in line_or_fault here first.0 f first.1 bad
+all_and_bad (b ∷ before) here after spelled f h said bad = let rest = rest_said b (before ++ here ∷ after) spelled h in all_and_bad before here after rest.0 f rest.1 said bad
 
 -- two first faults are one
-one_place : (before later : List Text) (x y : Text) (after rest : List Text) (es ds : List Entry) (f g : LineFault) → AreLines (said_in before) es → AreLines (said_in later) ds → is_skipped x ≡ false → is_skipped y ≡ false → IsLineFault x f → IsLineFault y g
+one_place : (before later : List Text) (x y : Text) (after rest : List Text) (es ds : List LineValues) (f g : LineFault) → AreLines (said_in before) es → AreLines (said_in later) ds → is_skipped x ≡ false → is_skipped y ≡ false → IsLineFault x f → IsLineFault y g
     → before ++ x ∷ after ≡ later ++ y ∷ rest → ◌≡◌ {A = ℕ × LineFault} (length before, f) (length later, g)
 one_place [] [] x y after rest es ds f g h k said other bad worse same =
     let here : x ≡ y = cc in
@@ -79,7 +79,7 @@ one_place (b ∷ before) (l ∷ later) x y after rest es ds f g h k said other b
 
 one_bad_line : (body : Text) (m n : ℕ) (f g : LineFault) → IsFirstBadLine body m f → IsFirstBadLine body n g → revision.Bad m f ≡ revision.Bad n g
 one_bad_line body m n f g h k =
-    let same = one_place h.before k.before h.here k.here h.after k.after h.entries k.entries f g h.clean k.clean h.said k.said h.bad k.bad (sym h.split ∙ k.split) in
+    let same = one_place h.before k.before h.here k.here h.after k.after h.spelled k.spelled f g h.clean k.clean h.said k.said h.bad k.bad (sym h.split ∙ k.split) in
     ap (λ (l : ℕ). revision.Bad l f) h.number_is ∙ ap (λ (p : ℕ × LineFault). revision.Bad (p.0 + 1) p.1) same ∙ ap (λ (l : ℕ). revision.Bad l g) (sym k.number_is)
 
 -- a fault is that no line says anything, or the first bad line
@@ -90,7 +90,7 @@ data Why (body : Text) (why : RevisionFault) : Type 0 where
 why_of : (body : Text) (why : RevisionFault) → IsRevisionFault body why → Why body why
 why_of body (revision.Bad number fault.NoLine) h = silent (ap (λ (n : ℕ). revision.Bad n fault.NoLine) h.0) h.1
 why_of body (revision.Bad number fault.Form) h = bad number fault.Form refl h
-why_of body (revision.Bad number fault.Kind) h = bad number fault.Kind refl h
+why_of body (revision.Bad number fault.LineKind) h = bad number fault.LineKind refl h
 why_of body (revision.Bad number fault.Fields) h = bad number fault.Fields refl h
 why_of body (revision.Bad number (fault.Value n)) h = bad number (fault.Value n) refl h
 why_of body (revision.Bad number fault.Order) h = bad number fault.Order refl h
@@ -106,30 +106,30 @@ one_why body f g (silent e h) (bad n b d k) = absurd (not_silent body n b h k)
 one_why body f g (bad m a e h) (silent d k) = absurd (not_silent body m a k h)
 one_why body f g (bad m a e h) (bad n b d k) = e ∙ one_bad_line body m n a b h k ∙ sym d
 
-no_why : (body : Text) (entries : List Entry) (why : RevisionFault) → IsRevision body entries → Why body why → ⊥
-no_why body entries why h (silent e k) =
-    let none : entries ≡ [] = one_entries [] entries [] (subst (λ (ts : List Text). AreLines ts entries) k h.each) tt in
+no_why : (body : Text) (spelled : List LineValues) (why : RevisionFault) → IsRevision body spelled → Why body why → ⊥
+no_why body spelled why h (silent e k) =
+    let none : spelled ≡ [] = one_lines [] spelled [] (subst (λ (ts : List Text). AreLines ts spelled) k h.each) tt in
     h.some none
-no_why body entries why h (bad n f e k) = all_and_bad k.before k.here k.after entries f (subst (λ (ts : List Text). AreLines (said_in ts) entries) k.split h.each) k.said k.bad
+no_why body spelled why h (bad n f e k) = all_and_bad k.before k.here k.after spelled f (subst (λ (ts : List Text). AreLines (said_in ts) spelled) k.split h.each) k.said k.bad
 
-only_revision : (body : Text) (answer : Result (List Entry) RevisionFault) → MatchResult answer (IsRevision body) (IsRevisionFault body) → IsOnly (IsRevision body) (IsRevisionFault body) answer
+only_revision : (body : Text) (answer : Result (List LineValues) RevisionFault) → MatchResult answer (IsRevision body) (IsRevisionFault body) → IsOnly (IsRevision body) (IsRevisionFault body) answer
 only_revision body answer right =
-    only_from (IsRevision body) (IsRevisionFault body) (λ a b h k. one_entries (said_in (lines body)) a b h.each k.each) (λ f g h k. one_why body f g (why_of body f h) (why_of body g k))
-    (λ entries f h k. no_why body entries f h (why_of body f k)) answer right
+    only_from (IsRevision body) (IsRevisionFault body) (λ a b h k. one_lines (said_in (lines body)) a b h.each k.each) (λ f g h k. one_why body f g (why_of body f h) (why_of body g k))
+    (λ spelled f h k. no_why body spelled f h (why_of body f k)) answer right
 
-pub only_read : (body : Text) (entries : List Entry) → IsRevision body entries → IsOnly (IsRevision body) (IsRevisionFault body) (Ok entries)
-only_read body entries h = only_revision body (Ok entries) h
+pub only_read : (body : Text) (spelled : List LineValues) → IsRevision body spelled → IsOnly (IsRevision body) (IsRevisionFault body) (Ok spelled)
+only_read body spelled h = only_revision body (Ok spelled) h
 
 -- the same of a reader that may want memory
 pub only_refused : (body : Text) (why : RevisionFault) → RefusesRevision body why → (why ≡ revision.OutOfMemory) ⊎ IsOnly (IsRevision body) (IsRevisionFault body) (Err why)
 only_refused body (revision.Bad number f) h = inr (only_revision body (Err (revision.Bad number f)) h)
 only_refused body revision.OutOfMemory h = inl refl
 
-skipped_before : (text : Text) (texts : List Text) (entries : List Entry) → is_skipped text ≡ true → AreLines (said_in texts) entries → AreLines (said_in (text ∷ texts)) entries
-skipped_before text texts entries is h = subst (λ (b : Bool). AreLines (cond (not b) (text ∷ said_in texts) (said_in texts)) entries) (sym is) h
+skipped_before : (text : Text) (texts : List Text) (spelled : List LineValues) → is_skipped text ≡ true → AreLines (said_in texts) spelled → AreLines (said_in (text ∷ texts)) spelled
+skipped_before text texts spelled is h = subst (λ (b : Bool). AreLines (cond (not b) (text ∷ said_in texts) (said_in texts)) spelled) (sym is) h
 
-said_before : (text : Text) (texts : List Text) (e : Entry) (entries : List Entry) → is_skipped text ≡ false → IsLine text e → AreLines (said_in texts) entries → AreLines (said_in (text ∷ texts)) (e ∷ entries)
-said_before text texts e entries is here h = subst (λ (b : Bool). AreLines (cond (not b) (text ∷ said_in texts) (said_in texts)) (e ∷ entries)) (sym is) (here, h)
+said_before : (text : Text) (texts : List Text) (e : LineValues) (spelled : List LineValues) → is_skipped text ≡ false → IsLine text e → AreLines (said_in texts) spelled → AreLines (said_in (text ∷ texts)) (e ∷ spelled)
+said_before text texts e spelled is here h = subst (λ (b : Bool). AreLines (cond (not b) (text ∷ said_in texts) (said_in texts)) (e ∷ spelled)) (sym is) (here, h)
 
 -- one of these lines is the first with a fault
 record HasBad (texts : List Text) : Type 0 where
@@ -138,26 +138,26 @@ record HasBad (texts : List Text) : Type 0 where
   here : Text
   after : List Text
   split : texts ≡ before ++ here ∷ after
-  entries : List Entry
-  clean : AreLines (said_in before) entries
+  spelled : List LineValues
+  clean : AreLines (said_in before) spelled
   said : is_skipped here ≡ false
   bad : IsLineFault here why
 
 abbrev Read : List Text → Type 0
-Read texts = ((entries : List Entry) × AreLines (said_in texts) entries) ⊎ HasBad texts
+Read texts = ((spelled : List LineValues) × AreLines (said_in texts) spelled) ⊎ HasBad texts
 
 after_skipped : (text : Text) (texts : List Text) → is_skipped text ≡ true → Read texts → Read (text ∷ texts)
 after_skipped text texts is (inl all) = inl (all.0, skipped_before text texts all.0 is all.1)
 after_skipped text texts is (inr h) =
-    inr (record { why = h.why; before = text ∷ h.before; here = h.here; after = h.after; split = ap (λ (ts : List Text). text ∷ ts) h.split; entries = h.entries; clean = skipped_before text h.before h.entries is h.clean; said = h.said; bad = h.bad })
+    inr (record { why = h.why; before = text ∷ h.before; here = h.here; after = h.after; split = ap (λ (ts : List Text). text ∷ ts) h.split; spelled = h.spelled; clean = skipped_before text h.before h.spelled is h.clean; said = h.said; bad = h.bad })
 
-after_said : (text : Text) (texts : List Text) → is_skipped text ≡ false → (answer : Result Entry LineFault) → MatchResult answer (IsLine text) (IsLineFault text) → Read texts → Read (text ∷ texts)
-after_said text texts is (Err why) here read = inr (record { why = why; before = []; here = text; after = texts; split = refl; entries = []; clean = tt; said = is; bad = here })
+after_said : (text : Text) (texts : List Text) → is_skipped text ≡ false → (answer : Result LineValues LineFault) → MatchResult answer (IsLine text) (IsLineFault text) → Read texts → Read (text ∷ texts)
+after_said text texts is (Err why) here read = inr (record { why = why; before = []; here = text; after = texts; split = refl; spelled = []; clean = tt; said = is; bad = here })
 after_said text texts is (Ok e) here (inl all) = inl (e ∷ all.0, said_before text texts e all.0 is here all.1)
 after_said text texts is (Ok e) here (inr h) =
-    inr (record { why = h.why; before = text ∷ h.before; here = h.here; after = h.after; split = ap (λ (ts : List Text). text ∷ ts) h.split; entries = e ∷ h.entries; clean = said_before text h.before e h.entries is here h.clean; said = h.said; bad = h.bad })
+    inr (record { why = h.why; before = text ∷ h.before; here = h.here; after = h.after; split = ap (λ (ts : List Text). text ∷ ts) h.split; spelled = e ∷ h.spelled; clean = said_before text h.before e h.spelled is here h.clean; said = h.said; bad = h.bad })
 
--- lines spell entries, or one is the first with a fault
+-- lines spell values, or one is the first with a fault
 lines_read : (texts : List Text) → Read texts
 lines_read [] = inl ([], tt)
 lines_read (text ∷ texts) =
@@ -169,12 +169,12 @@ lines_read (text ∷ texts) =
     ]
 
 abbrev Answer : Text → Type 0
-Answer body = (answer : Result (List Entry) RevisionFault) × IsOnly (IsRevision body) (IsRevisionFault body) answer
+Answer body = (answer : Result (List LineValues) RevisionFault) × IsOnly (IsRevision body) (IsRevisionFault body) answer
 
 first_bad : (body : Text) (number : ℕ) (f : LineFault) → IsFirstBadLine body number f → IsRevisionFault body (revision.Bad number f)
 first_bad body number fault.NoLine h = absurd h.bad
 first_bad body number fault.Form h = h
-first_bad body number fault.Kind h = h
+first_bad body number fault.LineKind h = h
 first_bad body number fault.Fields h = h
 first_bad body number (fault.Value n) h = h
 first_bad body number fault.Order h = h
@@ -185,10 +185,10 @@ no_lines (t ∷ texts) h = absurd h
 
 answer_of : (body : Text) → Read (lines body) → Answer body
 answer_of body (inl ([], each)) = (Err (revision.Bad 1 fault.NoLine), only_revision body (Err (revision.Bad 1 fault.NoLine)) (refl, no_lines (said_in (lines body)) each))
-answer_of body (inl (e ∷ entries, each)) = (Ok (e ∷ entries), only_read body (e ∷ entries) (record { each = each; some = λ none. let f : e ∷ entries ≡ [] = none in cc }))
+answer_of body (inl (e ∷ spelled, each)) = (Ok (e ∷ spelled), only_read body (e ∷ spelled) (record { each = each; some = λ none. let f : e ∷ spelled ≡ [] = none in cc }))
 answer_of body (inr h) =
     let number = length h.before + 1 in
-    let line : IsFirstBadLine body number h.why = record { before = h.before; here = h.here; after = h.after; split = h.split; number_is = refl; entries = h.entries; clean = h.clean; said = h.said; bad = h.bad } in
+    let line : IsFirstBadLine body number h.why = record { before = h.before; here = h.here; after = h.after; split = h.split; number_is = refl; spelled = h.spelled; clean = h.clean; said = h.said; bad = h.bad } in
     (Err (revision.Bad number h.why), only_revision body (Err (revision.Bad number h.why)) (first_bad body number h.why line))
 
 -- every body is one revision or has one fault

@@ -14,9 +14,9 @@ use Rattle.epochs.specs.declared.parts.Roles.{Roles}
 use Rattle.epochs.specs.declared.quantity.Quantity.{Quantity}
 use Rattle.epochs.specs.Kinds.{Text, FieldKind, CodeOf, Words, Time, End, Required, Optional, PatternsOf, EventId, UserName, Ha1, RoleNames, fields_behind}
 use Rattle.epochs.specs.Fields.{Value, code, words, time, end, number, optional, patterns, roles, IsField, IsEnd, IsNumber, IsOptional, code_of, is_code_text, is_role, are_distinct, has_word, role_words, roles_named, roles_of}
-use Rattle.epochs.specs.Lines.{Entry, AreValues, IsLine}
-use Rattle.epochs.proofs.EntryWord.{entry_is}
-use Rattle.epochs.specs.Entries.{IsEntry, IsValueOf, AreValuesOf, IsNumberOf, is_code, is_blank_code}
+use Rattle.epochs.specs.Lines.{LineValues, AreValues, IsLine}
+use Rattle.epochs.proofs.SpellableWord.{spellable_is}
+use Rattle.epochs.specs.Spellable.{IsSpellable, IsValueOf, AreValuesOf, IsNumberOf, is_code, is_blank_code}
 
 pub chosen : {A : Type 0} (b : Bool) (x y : A) → cond b (Some x) None ≡ Some y → (b ≡ true) × (x ≡ y)
 chosen true x y e = (refl, cc)
@@ -103,5 +103,5 @@ spelled_are_values [] [] [] h = tt
 spelled_are_values (kind ∷ kinds) (text ∷ texts) (value ∷ values) h = (spelled_is_value kind text value h.0, spelled_are_values kinds texts values h.1)
 spelled_are_values _ _ _ h = absurd h
 
-pub line_is_entry : (text : Text) (e : Entry) → IsLine text e → IsEntry e
-line_is_entry text e h = entry_is e (record { values_are = spelled_are_values (fields_behind e.head) h.rest e.values h.spells; in_order = h.in_order })
+pub line_is_spellable : (text : Text) (e : LineValues) → IsLine text e → IsSpellable e
+line_is_spellable text e h = spellable_is e (record { values_are = spelled_are_values (fields_behind e.head) h.rest e.values h.spells; in_order = h.in_order })

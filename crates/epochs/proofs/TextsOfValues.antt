@@ -12,7 +12,7 @@ use Rattle.channel_globs.specs.declared.nslc.Part.TheVariants.{Network, Station,
 use Rattle.epochs.specs.declared.quantity.Quantity.{Quantity}
 use Rattle.epochs.specs.Kinds.{Text, FieldKind, CodeOf, Words, Time, End, Required, Optional, PatternsOf, EventId, UserName, Ha1, RoleNames}
 use Rattle.epochs.specs.Fields.{Value, code, words, time, end, number, optional, patterns, roles, IsField, IsEnd, IsNumber, IsOptional, code_of, is_code_text, roles_of}
-use Rattle.epochs.specs.Entries.{IsValueOf, IsNumberOf, IfThere, is_code, is_blank_code}
+use Rattle.epochs.specs.Spellable.{IsValueOf, IsNumberOf, IfThere, is_code, is_blank_code}
 use Rattle.epochs.proofs.TextsOfMoments.{text_of_moment}
 
 no_hyphen : (a b : ℕ) → is_ascii_alphanumeric a ≡ true → (a == 45 && b == 45) ≡ false

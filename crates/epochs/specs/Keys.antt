@@ -1,41 +1,41 @@
 -- The keys of lines, without where they lie in memory.
 use Rattle.std.specs.Prelude.{List, [], ◌∷◌, ◌++◌, if◌then◌else◌}
-use Rattle.epochs.specs.declared.kinds.Kind.{Kind}
-use Rattle.epochs.specs.declared.kinds.Kind.TheVariants as kind
+use Rattle.epochs.specs.declared.kinds.LineKind.{LineKind}
+use Rattle.epochs.specs.declared.kinds.LineKind.TheVariants as kind
 use Rattle.epochs.specs.declared.key.Key.{Key}
 use Rattle.epochs.specs.declared.key.Key.TheVariants as key
 use Rattle.epochs.specs.declared.kinds.Head.{Head}
 use Rattle.epochs.specs.declared.kinds.Head.TheVariants.{Says, Deletes}
 use Rattle.epochs.specs.Kinds.{Field, fields_of}
 use Rattle.epochs.specs.Fields.{Value, code, words}
-use Rattle.epochs.specs.Lines.{Entry, entry}
+use Rattle.epochs.specs.Lines.{LineValues, line_values}
 use Rattle.epochs.specs.Values.{time_value, name_values, glob_values}
 
 -- a key: its kind, and the values of the fields that make it
 pub record KeyValues : Type 0 where
-  pub kind : Kind
+  pub kind : LineKind
   pub values : List Value
 
-abbrev pub key_values : Kind → List Value → KeyValues
+abbrev pub key_values : LineKind → List Value → KeyValues
 key_values kind values = record { kind = kind; values = values }
 
-abbrev pub key_seen : Key → KeyValues
-key_seen (key.Net network start) = key_values kind.Net (code network ∷ time_value start ∷ [])
-key_seen (key.Sta network station start) =
+abbrev pub values_of_key : Key → KeyValues
+values_of_key (key.Net network start) = key_values kind.Net (code network ∷ time_value start ∷ [])
+values_of_key (key.Sta network station start) =
     key_values kind.Sta (code network ∷ code station ∷ time_value start ∷ [])
-key_seen (key.Cha name start) = key_values kind.Cha (name_values name ++ time_value start ∷ [])
-key_seen (key.Evt id) = key_values kind.Evt (words id ∷ [])
-key_seen (key.Rst network station location channel start) =
+values_of_key (key.Cha name start) = key_values kind.Cha (name_values name ++ time_value start ∷ [])
+values_of_key (key.Evt id) = key_values kind.Evt (words id ∷ [])
+values_of_key (key.Rst network station location channel start) =
     key_values kind.Rst (glob_values network station location channel ++ time_value start ∷ [])
-key_seen (key.Grt user network station location channel start) =
+values_of_key (key.Grt user network station location channel start) =
     key_values kind.Grt (words user ∷ glob_values network station location channel ++ time_value start ∷ [])
-key_seen (key.Usr name) = key_values kind.Usr (words name ∷ [])
+values_of_key (key.Usr name) = key_values kind.Usr (words name ∷ [])
 
-abbrev pub deletes : KeyValues → Entry
-deletes key = entry (Deletes key.kind) key.values
+abbrev pub deletes : KeyValues → LineValues
+deletes key = line_values (Deletes key.kind) key.values
 
-abbrev pub deletion_line : Key → Entry
-deletion_line key = deletes (key_seen key)
+abbrev pub deletion_line : Key → LineValues
+deletion_line key = deletes (values_of_key key)
 
 -- the values of the fields that make a key
 abbrev pub in_key : List Field → List Value → List Value
@@ -45,7 +45,7 @@ in_key (field ∷ fields) (value ∷ values) =
     if field.in_key then value ∷ in_key fields values else in_key fields values
 
 -- the key of a line; a deletion's is the one that it deletes
-abbrev pub key_of : Entry → KeyValues
+abbrev pub key_of : LineValues → KeyValues
 key_of e = key_behind e.head e.values
   where
     key_behind : Head → List Value → KeyValues

@@ -2,8 +2,8 @@
 use Rattle.std.specs.Prelude.{ℕ, List, [], ◌∷◌, ◌++◌, Bool, true, false, map, filter, codes}
 use Rattle.channel_globs.specs.declared.nslc.Part.{Part}
 use Rattle.channel_globs.specs.declared.nslc.Part.TheVariants.{Network, Station, Location, Channel}
-use Rattle.epochs.specs.declared.kinds.Kind.{Kind}
-use Rattle.epochs.specs.declared.kinds.Kind.TheVariants.{Net, Sta, Cha, Evt, Rst, Grt, Usr}
+use Rattle.epochs.specs.declared.kinds.LineKind.{LineKind}
+use Rattle.epochs.specs.declared.kinds.LineKind.TheVariants.{Net, Sta, Cha, Evt, Rst, Grt, Usr}
 use Rattle.epochs.specs.declared.kinds.Head.{Head}
 use Rattle.epochs.specs.declared.kinds.Head.TheVariants.{Says, Deletes}
 use Rattle.epochs.specs.declared.quantity.Quantity.{Quantity}
@@ -51,7 +51,7 @@ abbrev pub epoch_fields : List Field
 epoch_fields = keyed Time ∷ plain End ∷ []
 
 -- the fields behind the kind
-abbrev pub fields_of : Kind → List Field
+abbrev pub fields_of : LineKind → List Field
 fields_of Net = keyed (CodeOf Network) ∷ plain Words ∷ epoch_fields
 fields_of Sta =
     keyed (CodeOf Network)
@@ -98,7 +98,7 @@ fields_of Grt = keyed UserName ∷ pattern_fields ++ epoch_fields
 fields_of Usr = keyed UserName ∷ plain Ha1 ∷ plain RoleNames ∷ []
 
 -- the first field of a line of that kind
-abbrev pub name_of : Kind → Text
+abbrev pub name_of : LineKind → Text
 name_of Net = codes "NET"
 name_of Sta = codes "STA"
 name_of Cha = codes "CHA"
@@ -116,7 +116,7 @@ abbrev pub kinds_in : List Field → List FieldKind
 kinds_in fields = map (λ f. f.kind) fields
 
 -- the fields that make the key of a kind
-abbrev pub key_fields : Kind → List Field
+abbrev pub key_fields : LineKind → List Field
 key_fields kind = filter (λ f. f.in_key) (fields_of kind)
 
 -- the fields that stand behind the head: all, or those of the key

@@ -1,4 +1,4 @@
-pub mod Entries
+pub mod Spellable
 pub mod Fields
 pub mod Keys
 pub mod Kinds

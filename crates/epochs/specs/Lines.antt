@@ -9,12 +9,12 @@ use Rattle.epochs.specs.declared.fault.LineFault.{LineFault}
 use Rattle.epochs.specs.declared.fault.LineFault.TheVariants as fault
 
 -- a line, without where it lies in memory
-pub record Entry : Type 0 where
+pub record LineValues : Type 0 where
   pub head : Head
   pub values : List Value
 
-abbrev pub entry : Head → List Value → Entry
-entry head values = record { head = head; values = values }
+abbrev pub line_values : Head → List Value → LineValues
+line_values head values = record { head = head; values = values }
 
 abbrev pub number_sign : ℕ
 number_sign = 35
@@ -71,8 +71,8 @@ pub record HasHead (text : Text) (head : Head) (rest : List Text) : Type 0 where
   pub is_plain : IsPlain text
   pub split : texts_of text ≡ head_texts head ++ rest
 
--- a line spells this entry
-pub record IsLine (text : Text) (e : Entry) : Type 0 where
+-- a line spells these values
+pub record IsLine (text : Text) (e : LineValues) : Type 0 where
   pub rest : List Text
   pub has_head : HasHead text e.head rest
   pub spells : AreValues (fields_behind e.head) rest e.values
@@ -82,14 +82,14 @@ pub record IsLine (text : Text) (e : Entry) : Type 0 where
 abbrev pub SpellsNone : FieldKind → Text → Type 0
 SpellsNone kind text = (value : Value) → ¬ (IsField kind text value)
 
-abbrev pub CanRead : FieldKind → Text → Type 0
-CanRead kind text = (value : Value) × IsField kind text value
+abbrev pub CanBeField : FieldKind → Text → Type 0
+CanBeField kind text = (value : Value) × IsField kind text value
 
 -- the text that has so many before it spells no value of its kind, and each before it spells one
-abbrev pub IsFirstBad : List FieldKind → List Text → ℕ → Type 0
-IsFirstBad (kind ∷ kinds) (text ∷ texts) zero = SpellsNone kind text
-IsFirstBad (kind ∷ kinds) (text ∷ texts) (suc count) = CanRead kind text × IsFirstBad kinds texts count
-IsFirstBad _ _ _ = ⊥
+abbrev pub IsFirstBadField : List FieldKind → List Text → ℕ → Type 0
+IsFirstBadField (kind ∷ kinds) (text ∷ texts) zero = SpellsNone kind text
+IsFirstBadField (kind ∷ kinds) (text ∷ texts) (suc count) = CanBeField kind text × IsFirstBadField kinds texts count
+IsFirstBadField _ _ _ = ⊥
 
 -- there is no known kind, also behind DEL
 pub record HasNoKind (text : Text) : Type 0 where
@@ -110,7 +110,7 @@ pub record HasBadField (text : Text) (number : ℕ) : Type 0 where
   pub has_head : HasHead text head rest
   pub as_many : length rest ≡ length (fields_behind head)
   pub count : ℕ
-  pub first : IsFirstBad (fields_behind head) rest count
+  pub first : IsFirstBadField (fields_behind head) rest count
   pub number_is : number ≡ length (head_texts head) + count + 1
 
 -- the end isn't after the start
@@ -127,7 +127,7 @@ pub record IsOutOfOrder (text : Text) : Type 0 where
 abbrev pub IsLineFault : Text → LineFault → Type 0
 IsLineFault text fault.NoLine = ⊥
 IsLineFault text fault.Form = ¬ (IsPlain text)
-IsLineFault text fault.Kind = HasNoKind text
+IsLineFault text fault.LineKind = HasNoKind text
 IsLineFault text fault.Fields = HasOtherFields text
 IsLineFault text (fault.Value number) = HasBadField text number
 IsLineFault text fault.Order = IsOutOfOrder text

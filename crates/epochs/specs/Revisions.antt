@@ -2,7 +2,7 @@
 use Rattle.std.specs.Prelude.{◌≡◌, ℕ, ◌+◌, List, [], ◌∷◌, ◌++◌, length, filter, not, false, ⊤}
 use Rattle.std.specs.Str.Lines.{lines}
 use Rattle.epochs.specs.Kinds.{Text}
-use Rattle.epochs.specs.Lines.{Entry, IsLine, IsLineFault, is_skipped}
+use Rattle.epochs.specs.Lines.{LineValues, IsLine, IsLineFault, is_skipped}
 use Rattle.epochs.specs.declared.fault.LineFault.{LineFault}
 use Rattle.epochs.specs.declared.fault.LineFault.TheVariants as fault
 use Rattle.epochs.specs.declared.fault.RevisionFault.{RevisionFault}
@@ -12,28 +12,28 @@ use Rattle.epochs.specs.declared.fault.RevisionFault.TheVariants as revision
 abbrev pub said_in : List Text → List Text
 said_in texts = filter (λ text. not (is_skipped text)) texts
 
--- each line spells its entry
-abbrev pub AreLines : List Text → List Entry → Type 0
+-- each line spells its values
+abbrev pub AreLines : List Text → List LineValues → Type 0
 AreLines [] [] = ⊤
-AreLines (text ∷ texts) (e ∷ entries) = IsLine text e × AreLines texts entries
-AreLines [] (e ∷ entries) = ⊥
+AreLines (text ∷ texts) (e ∷ spelled) = IsLine text e × AreLines texts spelled
+AreLines [] (e ∷ spelled) = ⊥
 AreLines (text ∷ texts) [] = ⊥
 
--- a body spells these entries, of which there is at least one
-pub record IsRevision (body : Text) (entries : List Entry) : Type 0 where
-  pub each : AreLines (said_in (lines body)) entries
-  pub some : ¬ (entries ≡ [])
+-- a body spells these lines, of which there is at least one
+pub record IsRevision (body : Text) (spelled : List LineValues) : Type 0 where
+  pub each : AreLines (said_in (lines body)) spelled
+  pub some : ¬ (spelled ≡ [])
 
 -- the line of this number, counted from 1 over all lines, has this fault, and each before it that
--- isn't skipped spells an entry
+-- isn't skipped spells values
 pub record IsFirstBadLine (body : Text) (number : ℕ) (f : LineFault) : Type 0 where
   pub before : List Text
   pub here : Text
   pub after : List Text
   pub split : lines body ≡ before ++ here ∷ after
   pub number_is : number ≡ length before + 1
-  pub entries : List Entry
-  pub clean : AreLines (said_in before) entries
+  pub spelled : List LineValues
+  pub clean : AreLines (said_in before) spelled
   pub said : is_skipped here ≡ false
   pub bad : IsLineFault here f
 

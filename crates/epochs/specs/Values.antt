@@ -1,16 +1,16 @@
--- The values of the parts of lines, and the entries of these parts.
+-- The values of the parts of lines, and those of lines of these parts.
 use Rattle.std.specs.Prelude.{List, [], ◌∷◌, ◌++◌, Option, option_map}
 use Rattle.exact_time.specs.declared.moment.Moment.{Moment}
 use Rattle.exact_time.specs.declared.decimal.Decimal.{Decimal}
 use Rattle.channel_globs.specs.declared.nslc.Nslc.{Nslc}
-use Rattle.epochs.specs.declared.kinds.Kind.{Kind}
-use Rattle.epochs.specs.declared.kinds.Kind.TheVariants.{Net, Sta, Cha, Evt, Rst, Grt, Usr}
+use Rattle.epochs.specs.declared.kinds.LineKind.{LineKind}
+use Rattle.epochs.specs.declared.kinds.LineKind.TheVariants.{Net, Sta, Cha, Evt, Rst, Grt, Usr}
 use Rattle.epochs.specs.declared.parts.Glob.{Glob}
 use Rattle.epochs.specs.declared.parts.Roles.{Roles}
 use Rattle.epochs.specs.declared.kinds.Head.TheVariants.{Says}
 use Rattle.epochs.specs.Kinds.{Text}
 use Rattle.epochs.specs.Fields.{Value, code, words, time, end, number, optional, patterns, roles}
-use Rattle.epochs.specs.Lines.{Entry, entry}
+use Rattle.epochs.specs.Lines.{LineValues, line_values}
 
 abbrev pub glob_value : Glob → Value
 glob_value glob = patterns glob.text glob.list
@@ -38,14 +38,14 @@ glob_values network station location channel =
 abbrev pub epoch_values : Moment → Option Moment → List Value
 epoch_values start stop = time_value start ∷ end_value stop ∷ []
 
-abbrev pub says : Kind → List Value → Entry
-says kind values = entry (Says kind) values
+abbrev pub says : LineKind → List Value → LineValues
+says kind values = line_values (Says kind) values
 
-abbrev pub network_line : (network description : Text) → Moment → Option Moment → Entry
+abbrev pub network_line : (network description : Text) → Moment → Option Moment → LineValues
 network_line network description start stop =
     says Net (code network ∷ words description ∷ epoch_values start stop)
 
-abbrev pub station_line : (network station : Text) → (latitude longitude elevation : Decimal) → (site : Text) → Moment → Option Moment → Entry
+abbrev pub station_line : (network station : Text) → (latitude longitude elevation : Decimal) → (site : Text) → Moment → Option Moment → LineValues
 station_line network station latitude longitude elevation site start stop =
     says Sta (
     code network
@@ -57,7 +57,7 @@ station_line network station latitude longitude elevation site start stop =
     ∷ epoch_values start stop)
 
 abbrev pub channel_line : Nslc → (latitude longitude elevation depth : Decimal) → (azimuth dip : Option Decimal) → (sensor : Text)
-    → (scale scale_freq : Option Decimal) → (scale_units : Text) → (sample_rate : Decimal) → Moment → Option Moment → Entry
+    → (scale scale_freq : Option Decimal) → (scale_units : Text) → (sample_rate : Decimal) → Moment → Option Moment → LineValues
 channel_line name latitude longitude elevation depth azimuth dip sensor scale scale_freq scale_units sample_rate start stop =
     says Cha (
     name_values name
@@ -75,7 +75,7 @@ channel_line name latitude longitude elevation depth azimuth dip sensor scale sc
     ∷ epoch_values start stop)
 
 abbrev pub event_line : (id : Text) → Moment → (latitude longitude : Decimal) → (depth : Option Decimal) → (author catalog contributor contributor_id magnitude_kind : Text)
-    → (magnitude : Option Decimal) → (magnitude_author location : Text) → Entry
+    → (magnitude : Option Decimal) → (magnitude_author location : Text) → LineValues
 event_line id when latitude longitude depth author catalog contributor contributor_id magnitude_kind magnitude magnitude_author location =
     says Evt (
     words id
@@ -93,13 +93,13 @@ event_line id when latitude longitude depth author catalog contributor contribut
     ∷ words location
     ∷ [])
 
-abbrev pub restriction_line : (network station location channel : Glob) → Moment → Option Moment → Entry
+abbrev pub restriction_line : (network station location channel : Glob) → Moment → Option Moment → LineValues
 restriction_line network station location channel start stop =
     says Rst (glob_values network station location channel ++ epoch_values start stop)
 
-abbrev pub grant_line : (user : Text) → (network station location channel : Glob) → Moment → Option Moment → Entry
+abbrev pub grant_line : (user : Text) → (network station location channel : Glob) → Moment → Option Moment → LineValues
 grant_line user network station location channel start stop =
     says Grt (words user ∷ glob_values network station location channel ++ epoch_values start stop)
 
-abbrev pub user_line : (name ha1 : Text) → Roles → Entry
+abbrev pub user_line : (name ha1 : Text) → Roles → LineValues
 user_line name ha1 named = says Usr (words name ∷ words ha1 ∷ roles named ∷ [])

@@ -1,25 +1,25 @@
 //! Deletions, of the fields behind `DEL` and the kind: those of the key.
 ghost use Rattle.std.specs.Prelude.{◌≡◌, ◌≤◌, ◌<◌, [], ◌∷◌, IfOk, IfErr, length, map};
-ghost use Rattle.epochs.specs.declared.kinds.Kind.TheVariants.{Net, Sta, Cha, Evt, Rst, Grt, Usr};
+ghost use Rattle.epochs.specs.declared.kinds.LineKind.TheVariants.{Net, Sta, Cha, Evt, Rst, Grt, Usr};
 ghost use Rattle.epochs.specs.declared.kinds.Head.TheVariants.{Deletes};
-ghost use Rattle.epochs.specs.Views.{seen};
+ghost use Rattle.epochs.specs.Views.{values_of_line};
 ghost use Rattle.epochs.specs.Reading.{IsSpelled, RefusesBehind};
 
 use crate::fault::LineFault;
-use crate::groups::{read_globs, read_name};
+use crate::groups::{Globs, read_globs, read_name};
 use crate::key::Key;
-use crate::kinds::Kind;
+use crate::kinds::LineKind;
 use crate::line::{Deletion, Line};
-use crate::values::{ReadFault, read_code, read_event_id, read_time, read_user_name};
+use crate::values::{FieldFault, read_code, read_event_id, read_time, read_user_name};
 use channel_globs::Part;
 use std::alloc::Global;
 
-fn net_deletion(fields: &[&str]) -> Result<Line, ReadFault>
-    ensures value { IfOk result (λ line. IsSpelled (Deletes Net) (map (λ x. x.now) fields.now) (seen line)) }
+fn net_deletion(fields: &[&str]) -> Result<Line, FieldFault>
+    ensures value { IfOk result (λ line. IsSpelled (Deletes Net) (map (λ x. x.now) fields.now) (values_of_line line)) }
     ensures refused { IfErr result (RefusesBehind (Deletes Net) (map (λ x. x.now) fields.now)) }
 {
     let [network, start] = fields else {
-        return Err(ReadFault::Bad(LineFault::Fields));
+        return Err(FieldFault::Bad(LineFault::Fields));
     };
     let network = read_code(3, Part::Network, network)?;
     let start = read_time(4, start)?;
@@ -28,12 +28,12 @@ fn net_deletion(fields: &[&str]) -> Result<Line, ReadFault>
     }))
 }
 
-fn sta_deletion(fields: &[&str]) -> Result<Line, ReadFault>
-    ensures value { IfOk result (λ line. IsSpelled (Deletes Sta) (map (λ x. x.now) fields.now) (seen line)) }
+fn sta_deletion(fields: &[&str]) -> Result<Line, FieldFault>
+    ensures value { IfOk result (λ line. IsSpelled (Deletes Sta) (map (λ x. x.now) fields.now) (values_of_line line)) }
     ensures refused { IfErr result (RefusesBehind (Deletes Sta) (map (λ x. x.now) fields.now)) }
 {
     let [network, station, start] = fields else {
-        return Err(ReadFault::Bad(LineFault::Fields));
+        return Err(FieldFault::Bad(LineFault::Fields));
     };
     let network = read_code(3, Part::Network, network)?;
     let station = read_code(4, Part::Station, station)?;
@@ -47,12 +47,12 @@ fn sta_deletion(fields: &[&str]) -> Result<Line, ReadFault>
     }))
 }
 
-fn cha_deletion(fields: &[&str]) -> Result<Line, ReadFault>
-    ensures value { IfOk result (λ line. IsSpelled (Deletes Cha) (map (λ x. x.now) fields.now) (seen line)) }
+fn cha_deletion(fields: &[&str]) -> Result<Line, FieldFault>
+    ensures value { IfOk result (λ line. IsSpelled (Deletes Cha) (map (λ x. x.now) fields.now) (values_of_line line)) }
     ensures refused { IfErr result (RefusesBehind (Deletes Cha) (map (λ x. x.now) fields.now)) }
 {
     let [network, station, location, channel, start] = fields else {
-        return Err(ReadFault::Bad(LineFault::Fields));
+        return Err(FieldFault::Bad(LineFault::Fields));
     };
     let name = read_name(3, network, station, location, channel)?;
     let start = read_time(7, start)?;
@@ -61,12 +61,12 @@ fn cha_deletion(fields: &[&str]) -> Result<Line, ReadFault>
     }))
 }
 
-fn evt_deletion(alloc: Global, fields: &[&str]) -> Result<Line, ReadFault>
-    ensures value { IfOk result (λ line. IsSpelled (Deletes Evt) (map (λ x. x.now) fields.now) (seen line)) }
+fn evt_deletion(alloc: Global, fields: &[&str]) -> Result<Line, FieldFault>
+    ensures value { IfOk result (λ line. IsSpelled (Deletes Evt) (map (λ x. x.now) fields.now) (values_of_line line)) }
     ensures refused { IfErr result (RefusesBehind (Deletes Evt) (map (λ x. x.now) fields.now)) }
 {
     let [id] = fields else {
-        return Err(ReadFault::Bad(LineFault::Fields));
+        return Err(FieldFault::Bad(LineFault::Fields));
     };
     let id = read_event_id(alloc, 3, id)?;
     Ok(Line::Del(Deletion {
@@ -74,16 +74,19 @@ fn evt_deletion(alloc: Global, fields: &[&str]) -> Result<Line, ReadFault>
     }))
 }
 
-fn rst_deletion(alloc: Global, fields: &[&str]) -> Result<Line, ReadFault>
-    ensures value { IfOk result (λ line. IsSpelled (Deletes Rst) (map (λ x. x.now) fields.now) (seen line)) }
+fn rst_deletion(alloc: Global, fields: &[&str]) -> Result<Line, FieldFault>
+    ensures value { IfOk result (λ line. IsSpelled (Deletes Rst) (map (λ x. x.now) fields.now) (values_of_line line)) }
     ensures refused { IfErr result (RefusesBehind (Deletes Rst) (map (λ x. x.now) fields.now)) }
 {
     let [network, station, location, channel, start] = fields else {
-        return Err(ReadFault::Bad(LineFault::Fields));
+        return Err(FieldFault::Bad(LineFault::Fields));
     };
-    let (network, station, location, channel) = read_globs(
-        alloc, 3, network, station, location, channel,
-    )?;
+    let Globs {
+        network,
+        station,
+        location,
+        channel,
+    } = read_globs(alloc, 3, network, station, location, channel)?;
     let start = read_time(7, start)?;
     Ok(Line::Del(Deletion {
         key: Key::Rst {
@@ -96,17 +99,20 @@ fn rst_deletion(alloc: Global, fields: &[&str]) -> Result<Line, ReadFault>
     }))
 }
 
-fn grt_deletion(alloc: Global, fields: &[&str]) -> Result<Line, ReadFault>
-    ensures value { IfOk result (λ line. IsSpelled (Deletes Grt) (map (λ x. x.now) fields.now) (seen line)) }
+fn grt_deletion(alloc: Global, fields: &[&str]) -> Result<Line, FieldFault>
+    ensures value { IfOk result (λ line. IsSpelled (Deletes Grt) (map (λ x. x.now) fields.now) (values_of_line line)) }
     ensures refused { IfErr result (RefusesBehind (Deletes Grt) (map (λ x. x.now) fields.now)) }
 {
     let [user, network, station, location, channel, start] = fields else {
-        return Err(ReadFault::Bad(LineFault::Fields));
+        return Err(FieldFault::Bad(LineFault::Fields));
     };
     let user = read_user_name(alloc, 3, user)?;
-    let (network, station, location, channel) = read_globs(
-        alloc, 4, network, station, location, channel,
-    )?;
+    let Globs {
+        network,
+        station,
+        location,
+        channel,
+    } = read_globs(alloc, 4, network, station, location, channel)?;
     let start = read_time(8, start)?;
     Ok(Line::Del(Deletion {
         key: Key::Grt {
@@ -120,12 +126,12 @@ fn grt_deletion(alloc: Global, fields: &[&str]) -> Result<Line, ReadFault>
     }))
 }
 
-fn usr_deletion(alloc: Global, fields: &[&str]) -> Result<Line, ReadFault>
-    ensures value { IfOk result (λ line. IsSpelled (Deletes Usr) (map (λ x. x.now) fields.now) (seen line)) }
+fn usr_deletion(alloc: Global, fields: &[&str]) -> Result<Line, FieldFault>
+    ensures value { IfOk result (λ line. IsSpelled (Deletes Usr) (map (λ x. x.now) fields.now) (values_of_line line)) }
     ensures refused { IfErr result (RefusesBehind (Deletes Usr) (map (λ x. x.now) fields.now)) }
 {
     let [name] = fields else {
-        return Err(ReadFault::Bad(LineFault::Fields));
+        return Err(FieldFault::Bad(LineFault::Fields));
     };
     let name = read_user_name(alloc, 3, name)?;
     Ok(Line::Del(Deletion {
@@ -134,17 +140,17 @@ fn usr_deletion(alloc: Global, fields: &[&str]) -> Result<Line, ReadFault>
 }
 
 /// The deletion of a line of a kind, of the fields behind the kind.
-pub fn read_deletion(alloc: Global, kind: Kind, fields: &[&str]) -> Result<Line, ReadFault>
-    ensures value { IfOk result (λ line. IsSpelled (Deletes kind) (map (λ x. x.now) fields.now) (seen line)) }
+pub fn read_deletion(alloc: Global, kind: LineKind, fields: &[&str]) -> Result<Line, FieldFault>
+    ensures value { IfOk result (λ line. IsSpelled (Deletes kind) (map (λ x. x.now) fields.now) (values_of_line line)) }
     ensures refused { IfErr result (RefusesBehind (Deletes kind) (map (λ x. x.now) fields.now)) }
 {
     match kind {
-        Kind::Net => net_deletion(fields),
-        Kind::Sta => sta_deletion(fields),
-        Kind::Cha => cha_deletion(fields),
-        Kind::Evt => evt_deletion(alloc, fields),
-        Kind::Rst => rst_deletion(alloc, fields),
-        Kind::Grt => grt_deletion(alloc, fields),
-        Kind::Usr => usr_deletion(alloc, fields),
+        LineKind::Net => net_deletion(fields),
+        LineKind::Sta => sta_deletion(fields),
+        LineKind::Cha => cha_deletion(fields),
+        LineKind::Evt => evt_deletion(alloc, fields),
+        LineKind::Rst => rst_deletion(alloc, fields),
+        LineKind::Grt => grt_deletion(alloc, fields),
+        LineKind::Usr => usr_deletion(alloc, fields),
     }
 }

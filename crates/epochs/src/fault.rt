@@ -10,7 +10,7 @@ pub enum LineFault {
     /// The line isn't UTF-8, has a control character, or has more than 4000 bytes.
     Form,
     /// There is no such kind of line, or none behind `DEL`.
-    Kind,
+    LineKind,
     /// The kind has another number of fields.
     Fields,
     /// The field of this number, the kind being field 1, is none of its kind; the first one decides.
@@ -24,7 +24,7 @@ impl fmt::Display for LineFault {
         match self {
             LineFault::NoLine => f.write_str("NoLine"),
             LineFault::Form => f.write_str("Form"),
-            LineFault::Kind => f.write_str("Kind"),
+            LineFault::LineKind => f.write_str("LineKind"),
             LineFault::Fields => f.write_str("Fields"),
             LineFault::Value(field) => write!(f, "Value {field}"),
             LineFault::Order => f.write_str("Order"),

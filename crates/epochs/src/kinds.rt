@@ -2,7 +2,7 @@
 
 /// What a revision line states.
 #[derive(Clone, Copy, Debug, PartialEq, Eq)]
-pub enum Kind {
+pub enum LineKind {
     /// A network.
     Net,
     /// A station.
@@ -23,7 +23,7 @@ pub enum Kind {
 #[derive(Clone, Copy, Debug, PartialEq, Eq)]
 pub enum Head {
     /// With its kind: it states something.
-    Says(Kind),
+    Says(LineKind),
     /// With `DEL` and the kind of the line whose key it has: it ends that line.
-    Deletes(Kind),
+    Deletes(LineKind),
 }

@@ -7,12 +7,12 @@
 //!
 //! Which kinds of lines there are, with their fields and keys, stands as a table in
 //! `specs/Kinds.antt`, for lines and for deletions, and what each field spells in `specs/Fields.antt`. A
-//! line is one entry or has one fault (`IsLine` and `IsLineFault` of `specs/Lines.antt`). These
+//! line spells one set of values or has one fault (`IsLine` and `IsLineFault` of `specs/Lines.antt`). These
 //! definitions speak of a [`Line`] and a [`Key`] as `specs/Views.antt` and `specs/Keys.antt` see them,
 //! without memory.
 //!
 //! The type of a line keeps that its fields are values that a line can spell, and that its end is after
-//! its start (`IsEntry` of `specs/Entries.antt`).
+//! its start (`IsSpellable` of `specs/Spellable.antt`).
 //!
 //! A line is read in groups of fields (`src/groups.rt`), each field by a reader of its own
 //! (`src/values.rt`, `src/roles.rt`); `src/statements.rt` and `src/deletions.rt` have a function for each kind.

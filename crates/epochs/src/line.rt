@@ -1,4 +1,4 @@
-ghost use Rattle.epochs.specs.Entries.{IsEntry, IsEntry-prop};
+ghost use Rattle.epochs.specs.Spellable.{IsSpellable, IsSpellable-prop};
 ghost use Rattle.epochs.specs.Values.{network_line, station_line, channel_line, event_line, restriction_line, grant_line, user_line};
 ghost use Rattle.epochs.specs.Keys.{deletion_line};
 
@@ -14,7 +14,7 @@ pub struct NetworkEpoch {
     pub description: Text,
     pub start: Moment,
     pub end: Option<Moment>,
-    pub ghost entry: { IsEntry (network_line network description start end) } by { IsEntry-prop (network_line network description start end) },
+    pub ghost spellable: { IsSpellable (network_line network description start end) } by { IsSpellable-prop (network_line network description start end) },
 }
 
 /// A station. Latitude and longitude are in degrees, the elevation in metres.
@@ -28,7 +28,7 @@ pub struct StationEpoch {
     pub site: Text,
     pub start: Moment,
     pub end: Option<Moment>,
-    pub ghost entry: { IsEntry (station_line network station latitude longitude elevation site start end) } by { IsEntry-prop (station_line network station latitude longitude elevation site start end) },
+    pub ghost spellable: { IsSpellable (station_line network station latitude longitude elevation site start end) } by { IsSpellable-prop (station_line network station latitude longitude elevation site start end) },
 }
 
 /// A channel. Latitude, longitude, azimuth and dip are in degrees, elevation and depth in metres, the
@@ -52,7 +52,7 @@ pub struct ChannelEpoch {
     pub sample_rate: Decimal,
     pub start: Moment,
     pub end: Option<Moment>,
-    pub ghost entry: { IsEntry (channel_line name latitude longitude elevation depth azimuth dip sensor scale scale_freq scale_units sample_rate start end) } by { IsEntry-prop (channel_line name latitude longitude elevation depth azimuth dip sensor scale scale_freq scale_units sample_rate start end) },
+    pub ghost spellable: { IsSpellable (channel_line name latitude longitude elevation depth azimuth dip sensor scale scale_freq scale_units sample_rate start end) } by { IsSpellable-prop (channel_line name latitude longitude elevation depth azimuth dip sensor scale scale_freq scale_units sample_rate start end) },
 }
 
 /// An event. Latitude and longitude are in degrees, the depth in kilometres.
@@ -72,7 +72,7 @@ pub struct Event {
     pub magnitude: Option<Decimal>,
     pub magnitude_author: Text,
     pub location: Text,
-    pub ghost entry: { IsEntry (event_line id time latitude longitude depth author catalog contributor contributor_id magnitude_kind magnitude magnitude_author location) } by { IsEntry-prop (event_line id time latitude longitude depth author catalog contributor contributor_id magnitude_kind magnitude magnitude_author location) },
+    pub ghost spellable: { IsSpellable (event_line id time latitude longitude depth author catalog contributor contributor_id magnitude_kind magnitude magnitude_author location) } by { IsSpellable-prop (event_line id time latitude longitude depth author catalog contributor contributor_id magnitude_kind magnitude magnitude_author location) },
 }
 
 /// Channels that only those who have a grant may read.
@@ -84,7 +84,7 @@ pub struct Restriction {
     pub channel: Glob,
     pub start: Moment,
     pub end: Option<Moment>,
-    pub ghost entry: { IsEntry (restriction_line network station location channel start end) } by { IsEntry-prop (restriction_line network station location channel start end) },
+    pub ghost spellable: { IsSpellable (restriction_line network station location channel start end) } by { IsSpellable-prop (restriction_line network station location channel start end) },
 }
 
 /// Channels that a user may read.
@@ -98,7 +98,7 @@ pub struct Grant {
     pub channel: Glob,
     pub start: Moment,
     pub end: Option<Moment>,
-    pub ghost entry: { IsEntry (grant_line user network station location channel start end) } by { IsEntry-prop (grant_line user network station location channel start end) },
+    pub ghost spellable: { IsSpellable (grant_line user network station location channel start end) } by { IsSpellable-prop (grant_line user network station location channel start end) },
 }
 
 /// A user.
@@ -110,19 +110,19 @@ pub struct User {
     pub ha1: [u8; 32],
     /// At least one.
     pub roles: Roles,
-    pub ghost entry: { IsEntry (user_line name ha1 roles) } by { IsEntry-prop (user_line name ha1 roles) },
+    pub ghost spellable: { IsSpellable (user_line name ha1 roles) } by { IsSpellable-prop (user_line name ha1 roles) },
 }
 
 /// The end of the line that has this key.
 #[derive(Debug, Drop)]
 pub struct Deletion {
     pub key: Key,
-    pub ghost entry: { IsEntry (deletion_line key) } by { IsEntry-prop (deletion_line key) },
+    pub ghost spellable: { IsSpellable (deletion_line key) } by { IsSpellable-prop (deletion_line key) },
 }
 
 /// A revision line: a statement that stands until another line with its key, or a deletion of the key.
 ///
-/// Its type keeps that a line can spell it (`IsEntry` of `specs/Entries.antt`): its codes are of
+/// Its type keeps that a line can spell it (`IsSpellable` of `specs/Spellable.antt`): its codes are of
 /// letters and digits, its moments of the years 1900 to 2599, its numbers in their limits, its texts
 /// have at most 200 bytes and no control characters, a pattern list is that of its text, and an end is
 /// after its start. Without an end an epoch stays open.

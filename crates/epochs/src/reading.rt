@@ -3,15 +3,15 @@ ghost use Rattle.std.specs.Prelude.{◌≡◌, ◌≤◌, ◌==◌, ◌||◌, �
 ghost use Rattle.std.specs.List.{list_all};
 ghost use Rattle.epochs.specs.Kinds.{name_of};
 ghost use Rattle.epochs.specs.Lines.{is_skipped, begins_with_number_sign, IsPlain, IsLine, texts_of};
-ghost use Rattle.epochs.specs.Views.{seen};
-ghost use Rattle.epochs.specs.Reading.{IsHead, HasNoHead, IsSpelled, RefusesBehind, RefusesLine};
+ghost use Rattle.epochs.specs.Views.{values_of_line};
+ghost use Rattle.epochs.specs.Reading.{IsHead, HasNoHead, IsSpelled, RefusesBehind, RefusesRevisionLine};
 
 use crate::deletions::read_deletion;
 use crate::fault::LineFault;
-use crate::kinds::{Head, Kind};
+use crate::kinds::{Head, LineKind};
 use crate::line::Line;
 use crate::statements::read_statement;
-use crate::values::{ReadFault, has_control};
+use crate::values::{FieldFault, has_control};
 use std::alloc::{AllocError, Global};
 
 // How many bytes a line may have, without its end.
@@ -64,17 +64,17 @@ fn fields_in(alloc: Global, text: &str) -> Result<Vec<&str>, AllocError>
 }
 
 // The kind that a field names.
-fn kind_named(text: &str) -> Option<Kind>
-    ensures { MatchOption result ((kind : Kind) → ¬ (text.now ≡ name_of kind)) (λ kind. text.now ≡ name_of kind) }
+fn kind_named(text: &str) -> Option<LineKind>
+    ensures { MatchOption result ((kind : LineKind) → ¬ (text.now ≡ name_of kind)) (λ kind. text.now ≡ name_of kind) }
 {
     match text {
-        "NET" => Some(Kind::Net),
-        "STA" => Some(Kind::Sta),
-        "CHA" => Some(Kind::Cha),
-        "EVT" => Some(Kind::Evt),
-        "RST" => Some(Kind::Rst),
-        "GRT" => Some(Kind::Grt),
-        "USR" => Some(Kind::Usr),
+        "NET" => Some(LineKind::Net),
+        "STA" => Some(LineKind::Sta),
+        "CHA" => Some(LineKind::Cha),
+        "EVT" => Some(LineKind::Evt),
+        "RST" => Some(LineKind::Rst),
+        "GRT" => Some(LineKind::Grt),
+        "USR" => Some(LineKind::Usr),
         _ => None,
     }
 }
@@ -91,8 +91,8 @@ fn head_of<'a, 'b>(fields: &'a [&'b str]) -> Option<(Head, &'a [&'b str])>
 }
 
 // The line of the fields behind a head.
-fn read_behind(alloc: Global, head: Head, fields: &[&str]) -> Result<Line, ReadFault>
-    ensures value { IfOk result (λ line. IsSpelled head (map (λ x. x.now) fields.now) (seen line)) }
+fn read_behind(alloc: Global, head: Head, fields: &[&str]) -> Result<Line, FieldFault>
+    ensures value { IfOk result (λ line. IsSpelled head (map (λ x. x.now) fields.now) (values_of_line line)) }
     ensures refused { IfErr result (RefusesBehind head (map (λ x. x.now) fields.now)) }
 {
     match head {
@@ -102,16 +102,16 @@ fn read_behind(alloc: Global, head: Head, fields: &[&str]) -> Result<Line, ReadF
 }
 
 /// The line that a text spells.
-pub fn read_line(alloc: Global, text: &[u8]) -> Result<Line, ReadFault>
-    ensures line { IfOk result (λ line. IsLine text.now (seen line)) }
-    ensures refused { IfErr result (RefusesLine text.now) }
+pub fn read_line(alloc: Global, text: &[u8]) -> Result<Line, FieldFault>
+    ensures line { IfOk result (λ line. IsLine text.now (values_of_line line)) }
+    ensures refused { IfErr result (RefusesRevisionLine text.now) }
 {
     let Some(text) = plain_text(text) else {
-        return Err(ReadFault::Bad(LineFault::Form));
+        return Err(FieldFault::Bad(LineFault::Form));
     };
     let fields = fields_in(alloc, text)?;
     let Some((head, rest)) = head_of(&fields) else {
-        return Err(ReadFault::Bad(LineFault::Kind));
+        return Err(FieldFault::Bad(LineFault::LineKind));
     };
     read_behind(alloc, head, rest)
 }

@@ -1,28 +1,28 @@
 //! Revisions, line by line.
 ghost use Rattle.std.specs.Prelude.{◌≡◌, ◌⊎◌, ◌+◌, ◌<◌, ◌≤◌, IfOk, IfErr, IsErrOf, length, map};
 ghost use Rattle.list_laws.specs.Only.{IsOnly};
-ghost use Rattle.epochs.specs.Views.{seen, answer_seen};
+ghost use Rattle.epochs.specs.Views.{values_of_line, values_of_answer};
 ghost use Rattle.epochs.specs.Revisions.{IsRevision, IsRevisionFault, RefusesRevision};
 ghost use Rattle.epochs.specs.Reading.{raised};
 
 use crate::fault::{LineFault, RevisionFault};
 use crate::line::Line;
 use crate::reading::{is_skipped, read_line};
-use crate::values::ReadFault;
+use crate::values::FieldFault;
 use exact_time::Many;
 use std::alloc::Global;
 use text_lines::cut_line;
 
 // How the fault of a line is one of the body.
-fn raised(number: u64, fault: ReadFault) -> RevisionFault
+fn raised(number: u64, fault: FieldFault) -> RevisionFault
     ensures { result ≡ raised number fault }
 {
     match fault {
-        ReadFault::Bad(fault) => RevisionFault::Bad {
+        FieldFault::Bad(fault) => RevisionFault::Bad {
             line: number,
             fault,
         },
-        ReadFault::OutOfMemory => RevisionFault::OutOfMemory,
+        FieldFault::OutOfMemory => RevisionFault::OutOfMemory,
     }
 }
 
@@ -31,10 +31,10 @@ fn raised(number: u64, fault: ReadFault) -> RevisionFault
 /// with `#`, are skipped; they count for the numbers of lines. The first line that spells nothing
 /// decides; that there is no line comes last, at line 1.
 pub fn read_revision(alloc: Global, body: &[u8]) -> Result<Many<Line>, RevisionFault>
-    ensures lines { IfOk result (λ lines. IsRevision body.now (map seen lines)) }
+    ensures lines { IfOk result (λ lines. IsRevision body.now (map values_of_line lines)) }
     ensures refused { IfErr result (RefusesRevision body.now) }
     ensures exact { IsErrOf result RevisionFault.OutOfMemory
-        ⊎ IsOnly (IsRevision body.now) (IsRevisionFault body.now) (answer_seen result) }
+        ⊎ IsOnly (IsRevision body.now) (IsRevisionFault body.now) (values_of_answer result) }
 {
     let mut lines = Many::new(alloc);
     let mut number = 0usize;

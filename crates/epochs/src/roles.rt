@@ -7,7 +7,7 @@ ghost use Rattle.epochs.specs.Fields.{IsField, role_words, is_role, has_word, ar
 ghost use Rattle.epochs.specs.Reading.{RefusesField};
 
 use crate::parts::Roles;
-use crate::values::{ReadFault, bad_value};
+use crate::values::{FieldFault, bad_value};
 use std::alloc::{AllocError, Global};
 
 // The words of a list by commas.
@@ -77,7 +77,7 @@ fn roles_named(words: &[&[u8]]) -> Roles
 }
 
 /// Roles: a list by commas of `reader`, `feed`, `operator` and `replica`, of which each may stand once.
-pub fn read_roles(alloc: Global, number: u64, text: &str) -> Result<Roles, ReadFault>
+pub fn read_roles(alloc: Global, number: u64, text: &str) -> Result<Roles, FieldFault>
     ensures value { IfOk result (λ r. IsField RoleNames text.now (roles r)) }
     ensures refused { IfErr result (RefusesField RoleNames number text.now) }
 {

@@ -1,36 +1,37 @@
 //! The lines of each kind, of the fields behind the kind.
 ghost use Rattle.std.specs.Prelude.{◌≡◌, ◌≤◌, ◌<◌, [], ◌∷◌, IfOk, IfErr, length, map};
-ghost use Rattle.epochs.specs.declared.kinds.Kind.TheVariants.{Net, Sta, Cha, Evt, Rst, Grt, Usr};
+ghost use Rattle.epochs.specs.declared.kinds.LineKind.TheVariants.{Net, Sta, Cha, Evt, Rst, Grt, Usr};
 ghost use Rattle.epochs.specs.declared.kinds.Head.TheVariants.{Says};
-ghost use Rattle.epochs.specs.Views.{seen};
+ghost use Rattle.epochs.specs.Views.{values_of_line};
 ghost use Rattle.epochs.specs.Reading.{IsSpelled, RefusesBehind};
 
 use crate::fault::LineFault;
 use crate::groups::{
-    is_after, read_epoch, read_event, read_globs, read_hypocentre, read_magnitude, read_name,
-    read_position, read_response, read_sensor, read_source,
+    Attribution, EpochTimes, Globs, Hypocentre, Magnitude, Position, Response, Sensor, is_after,
+    read_attribution, read_epoch, read_event, read_globs, read_hypocentre, read_magnitude,
+    read_name, read_position, read_response, read_sensor,
 };
-use crate::kinds::Kind;
+use crate::kinds::LineKind;
 use crate::line::{
     ChannelEpoch, Event, Grant, Line, NetworkEpoch, Restriction, StationEpoch, User,
 };
 use crate::roles::read_roles;
-use crate::values::{ReadFault, read_code, read_ha1, read_user_name, read_words};
+use crate::values::{FieldFault, read_code, read_ha1, read_user_name, read_words};
 use channel_globs::Part;
 use std::alloc::Global;
 
-fn read_net(alloc: Global, fields: &[&str]) -> Result<Line, ReadFault>
-    ensures value { IfOk result (λ line. IsSpelled (Says Net) (map (λ x. x.now) fields.now) (seen line)) }
+fn read_net(alloc: Global, fields: &[&str]) -> Result<Line, FieldFault>
+    ensures value { IfOk result (λ line. IsSpelled (Says Net) (map (λ x. x.now) fields.now) (values_of_line line)) }
     ensures refused { IfErr result (RefusesBehind (Says Net) (map (λ x. x.now) fields.now)) }
 {
     let [network, description, start, end] = fields else {
-        return Err(ReadFault::Bad(LineFault::Fields));
+        return Err(FieldFault::Bad(LineFault::Fields));
     };
     let network = read_code(2, Part::Network, network)?;
     let description = read_words(alloc, 3, description)?;
-    let (start, end) = read_epoch(4, start, end)?;
+    let EpochTimes { start, end } = read_epoch(4, start, end)?;
     if !is_after(start, end) {
-        return Err(ReadFault::Bad(LineFault::Order));
+        return Err(FieldFault::Bad(LineFault::Order));
     }
     Ok(Line::Net(NetworkEpoch {
         network,
@@ -40,8 +41,8 @@ fn read_net(alloc: Global, fields: &[&str]) -> Result<Line, ReadFault>
     }))
 }
 
-fn read_sta(alloc: Global, fields: &[&str]) -> Result<Line, ReadFault>
-    ensures value { IfOk result (λ line. IsSpelled (Says Sta) (map (λ x. x.now) fields.now) (seen line)) }
+fn read_sta(alloc: Global, fields: &[&str]) -> Result<Line, FieldFault>
+    ensures value { IfOk result (λ line. IsSpelled (Says Sta) (map (λ x. x.now) fields.now) (values_of_line line)) }
     ensures refused { IfErr result (RefusesBehind (Says Sta) (map (λ x. x.now) fields.now)) }
 {
     let [
@@ -55,15 +56,19 @@ fn read_sta(alloc: Global, fields: &[&str]) -> Result<Line, ReadFault>
         end,
     ] = fields
     else {
-        return Err(ReadFault::Bad(LineFault::Fields));
+        return Err(FieldFault::Bad(LineFault::Fields));
     };
     let network = read_code(2, Part::Network, network)?;
     let station = read_code(3, Part::Station, station)?;
-    let (latitude, longitude, elevation) = read_position(4, latitude, longitude, elevation)?;
+    let Position {
+        latitude,
+        longitude,
+        elevation,
+    } = read_position(4, latitude, longitude, elevation)?;
     let site = read_words(alloc, 7, site)?;
-    let (start, end) = read_epoch(8, start, end)?;
+    let EpochTimes { start, end } = read_epoch(8, start, end)?;
     if !is_after(start, end) {
-        return Err(ReadFault::Bad(LineFault::Order));
+        return Err(FieldFault::Bad(LineFault::Order));
     }
     Ok(Line::Sta(StationEpoch {
         network,
@@ -77,8 +82,8 @@ fn read_sta(alloc: Global, fields: &[&str]) -> Result<Line, ReadFault>
     }))
 }
 
-fn read_cha(alloc: Global, fields: &[&str]) -> Result<Line, ReadFault>
-    ensures value { IfOk result (λ line. IsSpelled (Says Cha) (map (λ x. x.now) fields.now) (seen line)) }
+fn read_cha(alloc: Global, fields: &[&str]) -> Result<Line, FieldFault>
+    ensures value { IfOk result (λ line. IsSpelled (Says Cha) (map (λ x. x.now) fields.now) (values_of_line line)) }
     ensures refused { IfErr result (RefusesBehind (Says Cha) (map (λ x. x.now) fields.now)) }
 {
     let [
@@ -101,22 +106,29 @@ fn read_cha(alloc: Global, fields: &[&str]) -> Result<Line, ReadFault>
         end,
     ] = fields
     else {
-        return Err(ReadFault::Bad(LineFault::Fields));
+        return Err(FieldFault::Bad(LineFault::Fields));
     };
     let name = read_name(2, network, station, location, channel)?;
-    let (latitude, longitude, elevation) = read_position(6, latitude, longitude, elevation)?;
-    let (depth, azimuth, dip, sensor) = read_sensor(alloc, 9, depth, azimuth, dip, sensor)?;
-    let (scale, scale_freq, scale_units, sample_rate) = read_response(
-        alloc,
-        13,
+    let Position {
+        latitude,
+        longitude,
+        elevation,
+    } = read_position(6, latitude, longitude, elevation)?;
+    let Sensor {
+        depth,
+        azimuth,
+        dip,
+        sensor,
+    } = read_sensor(alloc, 9, depth, azimuth, dip, sensor)?;
+    let Response {
         scale,
         scale_freq,
         scale_units,
         sample_rate,
-    )?;
-    let (start, end) = read_epoch(17, start, end)?;
+    } = read_response(alloc, 13, scale, scale_freq, scale_units, sample_rate)?;
+    let EpochTimes { start, end } = read_epoch(17, start, end)?;
     if !is_after(start, end) {
-        return Err(ReadFault::Bad(LineFault::Order));
+        return Err(FieldFault::Bad(LineFault::Order));
     }
     Ok(Line::Cha(ChannelEpoch {
         name,
@@ -136,8 +148,8 @@ fn read_cha(alloc: Global, fields: &[&str]) -> Result<Line, ReadFault>
     }))
 }
 
-fn read_evt(alloc: Global, fields: &[&str]) -> Result<Line, ReadFault>
-    ensures value { IfOk result (λ line. IsSpelled (Says Evt) (map (λ x. x.now) fields.now) (seen line)) }
+fn read_evt(alloc: Global, fields: &[&str]) -> Result<Line, FieldFault>
+    ensures value { IfOk result (λ line. IsSpelled (Says Evt) (map (λ x. x.now) fields.now) (values_of_line line)) }
     ensures refused { IfErr result (RefusesBehind (Says Evt) (map (λ x. x.now) fields.now)) }
 {
     let [
@@ -156,26 +168,26 @@ fn read_evt(alloc: Global, fields: &[&str]) -> Result<Line, ReadFault>
         location,
     ] = fields
     else {
-        return Err(ReadFault::Bad(LineFault::Fields));
+        return Err(FieldFault::Bad(LineFault::Fields));
     };
     let (id, time) = read_event(alloc, 2, id, time)?;
-    let (latitude, longitude, depth) = read_hypocentre(4, latitude, longitude, depth)?;
-    let (author, catalog, contributor, contributor_id) = read_source(
-        alloc,
-        7,
+    let Hypocentre {
+        latitude,
+        longitude,
+        depth,
+    } = read_hypocentre(4, latitude, longitude, depth)?;
+    let Attribution {
         author,
         catalog,
         contributor,
         contributor_id,
-    )?;
-    let (magnitude_kind, magnitude, magnitude_author, location) = read_magnitude(
-        alloc,
-        11,
-        kind,
+    } = read_attribution(alloc, 7, author, catalog, contributor, contributor_id)?;
+    let Magnitude {
+        kind: magnitude_kind,
         magnitude,
-        magnitude_author,
+        author: magnitude_author,
         location,
-    )?;
+    } = read_magnitude(alloc, 11, kind, magnitude, magnitude_author, location)?;
     Ok(Line::Evt(Event {
         id,
         time,
@@ -193,19 +205,22 @@ fn read_evt(alloc: Global, fields: &[&str]) -> Result<Line, ReadFault>
     }))
 }
 
-fn read_rst(alloc: Global, fields: &[&str]) -> Result<Line, ReadFault>
-    ensures value { IfOk result (λ line. IsSpelled (Says Rst) (map (λ x. x.now) fields.now) (seen line)) }
+fn read_rst(alloc: Global, fields: &[&str]) -> Result<Line, FieldFault>
+    ensures value { IfOk result (λ line. IsSpelled (Says Rst) (map (λ x. x.now) fields.now) (values_of_line line)) }
     ensures refused { IfErr result (RefusesBehind (Says Rst) (map (λ x. x.now) fields.now)) }
 {
     let [network, station, location, channel, start, end] = fields else {
-        return Err(ReadFault::Bad(LineFault::Fields));
+        return Err(FieldFault::Bad(LineFault::Fields));
     };
-    let (network, station, location, channel) = read_globs(
-        alloc, 2, network, station, location, channel,
-    )?;
-    let (start, end) = read_epoch(6, start, end)?;
+    let Globs {
+        network,
+        station,
+        location,
+        channel,
+    } = read_globs(alloc, 2, network, station, location, channel)?;
+    let EpochTimes { start, end } = read_epoch(6, start, end)?;
     if !is_after(start, end) {
-        return Err(ReadFault::Bad(LineFault::Order));
+        return Err(FieldFault::Bad(LineFault::Order));
     }
     Ok(Line::Rst(Restriction {
         network,
@@ -217,20 +232,23 @@ fn read_rst(alloc: Global, fields: &[&str]) -> Result<Line, ReadFault>
     }))
 }
 
-fn read_grt(alloc: Global, fields: &[&str]) -> Result<Line, ReadFault>
-    ensures value { IfOk result (λ line. IsSpelled (Says Grt) (map (λ x. x.now) fields.now) (seen line)) }
+fn read_grt(alloc: Global, fields: &[&str]) -> Result<Line, FieldFault>
+    ensures value { IfOk result (λ line. IsSpelled (Says Grt) (map (λ x. x.now) fields.now) (values_of_line line)) }
     ensures refused { IfErr result (RefusesBehind (Says Grt) (map (λ x. x.now) fields.now)) }
 {
     let [user, network, station, location, channel, start, end] = fields else {
-        return Err(ReadFault::Bad(LineFault::Fields));
+        return Err(FieldFault::Bad(LineFault::Fields));
     };
     let user = read_user_name(alloc, 2, user)?;
-    let (network, station, location, channel) = read_globs(
-        alloc, 3, network, station, location, channel,
-    )?;
-    let (start, end) = read_epoch(7, start, end)?;
+    let Globs {
+        network,
+        station,
+        location,
+        channel,
+    } = read_globs(alloc, 3, network, station, location, channel)?;
+    let EpochTimes { start, end } = read_epoch(7, start, end)?;
     if !is_after(start, end) {
-        return Err(ReadFault::Bad(LineFault::Order));
+        return Err(FieldFault::Bad(LineFault::Order));
     }
     Ok(Line::Grt(Grant {
         user,
@@ -243,12 +261,12 @@ fn read_grt(alloc: Global, fields: &[&str]) -> Result<Line, ReadFault>
     }))
 }
 
-fn read_usr(alloc: Global, fields: &[&str]) -> Result<Line, ReadFault>
-    ensures value { IfOk result (λ line. IsSpelled (Says Usr) (map (λ x. x.now) fields.now) (seen line)) }
+fn read_usr(alloc: Global, fields: &[&str]) -> Result<Line, FieldFault>
+    ensures value { IfOk result (λ line. IsSpelled (Says Usr) (map (λ x. x.now) fields.now) (values_of_line line)) }
     ensures refused { IfErr result (RefusesBehind (Says Usr) (map (λ x. x.now) fields.now)) }
 {
     let [name, ha1, roles] = fields else {
-        return Err(ReadFault::Bad(LineFault::Fields));
+        return Err(FieldFault::Bad(LineFault::Fields));
     };
     let name = read_user_name(alloc, 2, name)?;
     let ha1 = read_ha1(3, ha1)?;
@@ -257,17 +275,17 @@ fn read_usr(alloc: Global, fields: &[&str]) -> Result<Line, ReadFault>
 }
 
 /// The line of a kind, of the fields behind the kind.
-pub fn read_statement(alloc: Global, kind: Kind, fields: &[&str]) -> Result<Line, ReadFault>
-    ensures value { IfOk result (λ line. IsSpelled (Says kind) (map (λ x. x.now) fields.now) (seen line)) }
+pub fn read_statement(alloc: Global, kind: LineKind, fields: &[&str]) -> Result<Line, FieldFault>
+    ensures value { IfOk result (λ line. IsSpelled (Says kind) (map (λ x. x.now) fields.now) (values_of_line line)) }
     ensures refused { IfErr result (RefusesBehind (Says kind) (map (λ x. x.now) fields.now)) }
 {
     match kind {
-        Kind::Net => read_net(alloc, fields),
-        Kind::Sta => read_sta(alloc, fields),
-        Kind::Cha => read_cha(alloc, fields),
-        Kind::Evt => read_evt(alloc, fields),
-        Kind::Rst => read_rst(alloc, fields),
-        Kind::Grt => read_grt(alloc, fields),
-        Kind::Usr => read_usr(alloc, fields),
+        LineKind::Net => read_net(alloc, fields),
+        LineKind::Sta => read_sta(alloc, fields),
+        LineKind::Cha => read_cha(alloc, fields),
+        LineKind::Evt => read_evt(alloc, fields),
+        LineKind::Rst => read_rst(alloc, fields),
+        LineKind::Grt => read_grt(alloc, fields),
+        LineKind::Usr => read_usr(alloc, fields),
     }
 }

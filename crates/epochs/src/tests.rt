@@ -267,7 +267,10 @@ fn tells_lines_that_say_nothing(rt: HostRuntime) {
         );
     }
     for body in ["FOO|1", "DEL", "DEL|DEL|NET|IU", "net|IU||1998-10-26|"] {
-        assert!(&rt; tells(alloc, body.as_bytes(), 1, LineFault::Kind), "{body}");
+        assert!(&rt;
+            tells(alloc, body.as_bytes(), 1, LineFault::LineKind),
+            "{body}"
+        );
     }
     for body in ["NET|IU|a\tb|1998-10-26|", "NET|IU|\u{85}|x|", "USR\r"] {
         assert!(&rt; tells(alloc, body.as_bytes(), 1, LineFault::Form), "{body}");
@@ -303,7 +306,7 @@ fn tells_the_first_fault_of_a_line(rt: HostRuntime) {
 fn tells_the_first_bad_line(rt: HostRuntime) {
     let alloc = rt.alloc();
     let third = "# a comment\n\nFOO|1\nNET\n";
-    assert!(&rt; tells(alloc, third.as_bytes(), 3, LineFault::Kind));
+    assert!(&rt; tells(alloc, third.as_bytes(), 3, LineFault::LineKind));
     let second = "NET|IU||1998-10-26|\r\nNET\r\nFOO";
     assert!(&rt; tells(alloc, second.as_bytes(), 2, LineFault::Fields));
 }
@@ -395,7 +398,7 @@ fn measures_texts(rt: HostRuntime) -> Result<(), Fail> {
 fn measures_lines(rt: HostRuntime) -> Result<(), Fail> {
     let alloc = rt.alloc();
     let most = with_text(alloc, "", 4000, "\r\n")?;
-    assert!(&rt; tells(alloc, most.as_bytes(), 1, LineFault::Kind));
+    assert!(&rt; tells(alloc, most.as_bytes(), 1, LineFault::LineKind));
     let more = with_text(alloc, "", 4001, "\n")?;
     assert!(&rt; tells(alloc, more.as_bytes(), 1, LineFault::Form));
     assert!(&rt; tells(alloc, b"NET|\xff", 1, LineFault::Form));

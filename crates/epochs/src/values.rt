@@ -7,7 +7,7 @@ ghost use Rattle.exact_time.specs.Decimals.{IsDecimal};
 ghost use Rattle.epochs.specs.Kinds.{CodeOf, Words, Time, End, Required, Optional, PatternsOf, EventId, UserName, Ha1};
 ghost use Rattle.epochs.specs.Fields.{IsField, IsQuantity, is_code_text, least_bytes, most_bytes, is_name_byte, is_id_byte, is_event_id, is_user_name, is_lower_hex, is_ha1, has_control, has_bar, is_words};
 ghost use Rattle.epochs.specs.Fields.{code, words, time, end, number, optional, patterns};
-ghost use Rattle.epochs.specs.Reading.{RefusesField, bad_value, list_fault};
+ghost use Rattle.epochs.specs.Reading.{RefusesField, bad_value, field_list_fault};
 ghost use Rattle.epochs.specs.Values.{glob_value, time_value, end_value, number_value, optional_value};
 
 use crate::fault::LineFault;
@@ -22,38 +22,38 @@ const MOST_WORDS: usize = 200;
 
 /// Why a line, or a field of it, gives no value.
 #[derive(Clone, Copy, Debug, PartialEq, Eq)]
-pub enum ReadFault {
+pub enum FieldFault {
     Bad(LineFault),
     OutOfMemory,
 }
 
-impl From<AllocError> for ReadFault {
+impl From<AllocError> for FieldFault {
     ghost use Rattle.std.specs.Prelude.{◌≡◌};
-    ghost use Rattle.epochs.specs.declared.values.ReadFault.TheVariants.{OutOfMemory as NoMemory};
+    ghost use Rattle.epochs.specs.declared.values.FieldFault.TheVariants.{OutOfMemory as NoMemory};
 
     ghost from_gives = { λ _ e. e ≡ NoMemory };
 
-    fn from(_error: AllocError) -> ReadFault {
-        ReadFault::OutOfMemory
+    fn from(_error: AllocError) -> FieldFault {
+        FieldFault::OutOfMemory
     }
 }
 
-impl From<OutOfMemory> for ReadFault {
+impl From<OutOfMemory> for FieldFault {
     ghost use Rattle.std.specs.Prelude.{◌≡◌};
-    ghost use Rattle.epochs.specs.declared.values.ReadFault.TheVariants.{OutOfMemory as NoMemory};
+    ghost use Rattle.epochs.specs.declared.values.FieldFault.TheVariants.{OutOfMemory as NoMemory};
 
     ghost from_gives = { λ _ e. e ≡ NoMemory };
 
-    fn from(_error: OutOfMemory) -> ReadFault {
-        ReadFault::OutOfMemory
+    fn from(_error: OutOfMemory) -> FieldFault {
+        FieldFault::OutOfMemory
     }
 }
 
 /// The field of this number spells no value of its kind.
-pub fn bad_value(number: u64) -> ReadFault
+pub fn bad_value(number: u64) -> FieldFault
     ensures { result ≡ bad_value number }
 {
-    ReadFault::Bad(LineFault::Value(number))
+    FieldFault::Bad(LineFault::Value(number))
 }
 
 fn least_bytes(part: Part) -> usize
@@ -92,7 +92,7 @@ fn is_code_text(part: Part, text: &[u8]) -> bool
 
 /// A code: letters and digits, 1 or 2 of a network, 1 to 5 of a station, 3 of a channel, 1 or 2 of a
 /// location. No text and `--` are the blank location.
-pub fn read_code(number: u64, part: Part, text: &str) -> Result<Code, ReadFault>
+pub fn read_code(number: u64, part: Part, text: &str) -> Result<Code, FieldFault>
     ensures value { IfOk result (λ c. IsField (CodeOf part) text.now (code c)) }
     ensures refused { IfErr result (RefusesField (CodeOf part) number text.now) }
 {
@@ -110,7 +110,7 @@ pub fn read_code(number: u64, part: Part, text: &str) -> Result<Code, ReadFault>
 }
 
 /// A time.
-pub fn read_time(number: u64, text: &str) -> Result<Moment, ReadFault>
+pub fn read_time(number: u64, text: &str) -> Result<Moment, FieldFault>
     ensures value { IfOk result (λ m. IsField Time text.now (time_value m)) }
     ensures refused { IfErr result (RefusesField Time number text.now) }
 {
@@ -121,7 +121,7 @@ pub fn read_time(number: u64, text: &str) -> Result<Moment, ReadFault>
 }
 
 /// An end: a time, or none where there is no text.
-pub fn read_end(number: u64, text: &str) -> Result<Option<Moment>, ReadFault>
+pub fn read_end(number: u64, text: &str) -> Result<Option<Moment>, FieldFault>
     ensures value { IfOk result (λ m. IsField End text.now (end_value m)) }
     ensures refused { IfErr result (RefusesField End number text.now) }
 {
@@ -159,7 +159,7 @@ fn decimal_in(text: &str) -> Option<Decimal>
 }
 
 /// A number of a quantity.
-pub fn read_number(number: u64, quantity: Quantity, text: &str) -> Result<Decimal, ReadFault>
+pub fn read_number(number: u64, quantity: Quantity, text: &str) -> Result<Decimal, FieldFault>
     ensures value { IfOk result (λ d. IsField (Required quantity) text.now (number_value d)) }
     ensures refused { IfErr result (RefusesField (Required quantity) number text.now) }
 {
@@ -177,7 +177,7 @@ pub fn read_optional(
     number: u64,
     quantity: Quantity,
     text: &str,
-) -> Result<Option<Decimal>, ReadFault>
+) -> Result<Option<Decimal>, FieldFault>
     ensures value { IfOk result (λ d. IsField (Optional quantity) text.now (optional_value d)) }
     ensures refused { IfErr result (RefusesField (Optional quantity) number text.now) }
 {
@@ -210,7 +210,7 @@ fn is_words(text: &str) -> bool
 }
 
 /// A text of at most 200 bytes, without control characters and bars.
-pub fn read_words(alloc: Global, number: u64, text: &str) -> Result<Text, ReadFault>
+pub fn read_words(alloc: Global, number: u64, text: &str) -> Result<Text, FieldFault>
     ensures value { IfOk result (λ t. IsField Words text.now (words t)) }
     ensures refused { IfErr result (RefusesField Words number text.now) }
 {
@@ -221,9 +221,9 @@ pub fn read_words(alloc: Global, number: u64, text: &str) -> Result<Text, ReadFa
 }
 
 // The text of a piece of a line.
-fn text_of(alloc: Global, text: &str) -> Result<Text, ReadFault>
+fn text_of(alloc: Global, text: &str) -> Result<Text, FieldFault>
     ensures value { IfOk result (λ t. t ≡ text.now) }
-    ensures refused { IfErr result (λ fault. fault ≡ ReadFault.OutOfMemory) }
+    ensures refused { IfErr result (λ fault. fault ≡ FieldFault.OutOfMemory) }
 {
     let mut held = Text::new(alloc);
     held.push(text)?;
@@ -267,7 +267,7 @@ fn is_user_name(text: &[u8]) -> bool
 }
 
 /// The id of an event: 1 to 64 letters, digits and `_ - . : /`.
-pub fn read_event_id(alloc: Global, number: u64, text: &str) -> Result<Text, ReadFault>
+pub fn read_event_id(alloc: Global, number: u64, text: &str) -> Result<Text, FieldFault>
     ensures value { IfOk result (λ t. IsField EventId text.now (words t)) }
     ensures refused { IfErr result (RefusesField EventId number text.now) }
 {
@@ -278,7 +278,7 @@ pub fn read_event_id(alloc: Global, number: u64, text: &str) -> Result<Text, Rea
 }
 
 /// The name of a user: 1 to 32 letters, digits and `_ - .`.
-pub fn read_user_name(alloc: Global, number: u64, text: &str) -> Result<Text, ReadFault>
+pub fn read_user_name(alloc: Global, number: u64, text: &str) -> Result<Text, FieldFault>
     ensures value { IfOk result (λ t. IsField UserName text.now (words t)) }
     ensures refused { IfErr result (RefusesField UserName number text.now) }
 {
@@ -301,7 +301,7 @@ fn are_lower_hex(text: &[u8]) -> bool
 }
 
 /// An HA1 of Digest access authentication: 32 lower-case hexadecimal digits.
-pub fn read_ha1(number: u64, text: &str) -> Result<[u8; 32], ReadFault>
+pub fn read_ha1(number: u64, text: &str) -> Result<[u8; 32], FieldFault>
     ensures value { IfOk result (λ digits. IsField Ha1 text.now (words digits)) }
     ensures refused { IfErr result (RefusesField Ha1 number text.now) }
 {
@@ -314,17 +314,17 @@ pub fn read_ha1(number: u64, text: &str) -> Result<[u8; 32], ReadFault>
     Ok(digits)
 }
 
-fn list_fault(number: u64, fault: GlobFault) -> ReadFault
-    ensures { result ≡ list_fault number fault }
+fn field_list_fault(number: u64, fault: GlobFault) -> FieldFault
+    ensures { result ≡ field_list_fault number fault }
 {
     match fault {
-        GlobFault::OutOfMemory => ReadFault::OutOfMemory,
+        GlobFault::OutOfMemory => FieldFault::OutOfMemory,
         _ => bad_value(number),
     }
 }
 
 /// A list of patterns.
-pub fn read_glob(alloc: Global, number: u64, part: Part, text: &str) -> Result<Glob, ReadFault>
+pub fn read_glob(alloc: Global, number: u64, part: Part, text: &str) -> Result<Glob, FieldFault>
     ensures value { IfOk result (λ glob. IsField (PatternsOf part) text.now (glob_value glob)) }
     ensures refused { IfErr result (RefusesField (PatternsOf part) number text.now) }
 {
@@ -333,6 +333,6 @@ pub fn read_glob(alloc: Global, number: u64, part: Part, text: &str) -> Result<G
             text: text_of(alloc, text)?,
             list,
         }),
-        Err(fault) => Err(list_fault(number, fault)),
+        Err(fault) => Err(field_list_fault(number, fault)),
     }
 }

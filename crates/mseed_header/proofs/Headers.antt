@@ -9,6 +9,7 @@ use Rattle.exact_time.specs.declared.ratio.Ratio.{Ratio}
 use Rattle.exact_time.proofs.Rates.{one_rate}
 use Rattle.mseed_header.proofs.Chains.{one_chain_fault, no_chain_fault}
 use Rattle.mseed_header.proofs.Fronts.{size_bounds}
+use Rattle.mseed_header.proofs.Qualities.{letters_apart}
 use Rattle.mseed_header.proofs.Steps.{IsOne, IsNone, one_step, none_step, one_unless, none_unless, one_of_none, none_of_none}
 use Rattle.exact_time.specs.BTime.{IsBTime}
 use Rattle.mseed_header.specs.Blockettes.{HasChain, EndWithin, offsets_of, record_size}
@@ -20,20 +21,6 @@ use Rattle.mseed_header.specs.declared.header.RecordFault.{RecordFault}
 use Rattle.mseed_header.specs.declared.header.RecordFault.TheVariants.{Short, Year, Time, Quality, Code, Chain, NoBlockette1000, Reach}
 use Rattle.mseed_header.specs.declared.quality.Quality as letter
 use Rattle.mseed_header.specs.declared.quality.Quality.TheVariants.{D, M, Q, R}
-
--- the quality of a letter: the letters tell the qualities apart
-quality_with : ℕ → letter.Quality
-quality_with c = if c == 68 then D else if c == 77 then M else if c == 81 then Q else R
-
-with_letter : (q : letter.Quality) → quality_with (quality_letter q) ≡ q
-unfolding quality_with
-with_letter D = refl
-with_letter M = refl
-with_letter Q = refl
-with_letter R = refl
-
-one_quality : (q r : letter.Quality) → quality_letter q ≡ quality_letter r → q ≡ r
-one_quality q r e = sym (with_letter q) ∙ ap quality_with e ∙ with_letter r
 
 -- each code is a function of its field
 one_name : (bytes : List ℕ) (n m : Nslc) → IsName bytes n → IsName bytes m → n ≡ m
@@ -73,7 +60,7 @@ the_order bytes true h =
 same_fields : (bytes : List ℕ) (h g : Header) → h.little ≡ g.little → HasHeader bytes h → HasHeader bytes g → h ≡ g
 same_fields bytes h g little is also =
     let name : h.name ≡ g.name = one_name bytes h.name g.name is.name also.name in
-    let quality : h.quality ≡ g.quality = one_quality h.quality g.quality (is.quality ∙ sym also.quality) in
+    let quality : h.quality ≡ g.quality = letters_apart h.quality g.quality (is.quality ∙ sym also.quality) in
     let micros : h.start.micros ≡ g.start.micros = is.start ∙ ap (λ (b : Bool). start_micros b bytes) little ∙ sym also.start in
     let samples : h.samples ≡ g.samples = is.samples ∙ ap (λ (b : Bool). samples_of b bytes) little ∙ sym also.samples in
     let rate : h.rate ≡ g.rate = same_rate g.little bytes h.rate g.rate (subst (λ (b : Bool). IsRate b bytes h.rate) little is.rate) also.rate in

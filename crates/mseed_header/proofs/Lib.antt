@@ -4,6 +4,7 @@ pub mod CodeFields
 pub mod Examples
 pub mod Fronts
 pub mod Headers
+pub mod Qualities
 pub mod Rows
 pub mod Starts
 pub mod Steps

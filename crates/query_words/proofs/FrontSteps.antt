@@ -9,7 +9,7 @@ use Rattle.form_urlencoded.specs.Form.{split_pair}
 use Rattle.channel_globs.specs.PatternText.{space, drop_spaces, without_spaces}
 use Rattle.query_words.specs.declared.fault.QueryFault.{QueryFault}
 use Rattle.query_words.specs.declared.fault.QueryFault.TheVariants.{TooMany, Unknown, Repeated, OutOfScope, Value, Line, Order, NoLine, OutOfMemory}
-use Rattle.query_words.specs.declared.words.Word.{Word}
+use Rattle.query_words.specs.declared.words.ParameterValue.{ParameterValue}
 use Rattle.query_words.specs.Bodies.{Numbered, equals_sign, parameter_of, parameters_in, TakesLine, RefusesLine}
 use Rattle.query_words.specs.FirstRefusals.{IsFirstRefusal}
 use Rattle.query_words.specs.Fronts.{PutsLine, RefusesPutLine, HasFront, RefusesFront}
@@ -43,17 +43,17 @@ ascii_name text h = ascii_trimmed (take (equals_place text) text) (IsAscii-take 
 pub ascii_value : (text : List ℕ) → IsAscii text → IsAscii (without_spaces (split_pair text).1)
 ascii_value text h = ascii_trimmed (drop (equals_place text + 1) text) (IsAscii-drop text (equals_place text + 1) h)
 
-pub no_front : (rows : List Named) (count : ℕ) (words : List (Option Word)) → length rows ≡ count → words ≡ replicate count None → HasFront rows [] words
+pub no_front : (rows : List Named) (count : ℕ) (words : List (Option ParameterValue)) → length rows ≡ count → words ≡ replicate count None → HasFront rows [] words
 no_front rows count words size e = record { taken = tt; held = (start rows [] count words size e).held }
 
 -- one parameter line more
-pub front_more : (rows : List Named) (before : List Numbered) (l : Numbered) (words more : List (Option Word)) → HasFront rows before words → PutsLine rows l words more → HasFront rows (before ++ l ∷ []) more
+pub front_more : (rows : List Named) (before : List Numbered) (l : Numbered) (words more : List (Option ParameterValue)) → HasFront rows before words → PutsLine rows l words more → HasFront rows (before ++ l ∷ []) more
 front_more rows before l words more h put = record {
   taken = taken_more (TakesLine rows) [] before l h.taken (record { ascii = put.ascii; takes = takes rows (parameters_in before) (parameter_of l) words h.held more put.put });
   held = subst (λ (ps : List Parameter). AreHeld rows ps more) (sym (map-append parameter_of before (l ∷ []))) (held_more rows (parameters_in before) (parameter_of l) words h.held more put.put);
 }
 
-module _ (rows : List Named) (before : List Numbered) (l : Numbered) (after : List Numbered) (words : List (Option Word)) (h : HasFront rows before words) where
+module _ (rows : List Named) (before : List Numbered) (l : Numbered) (after : List Numbered) (words : List (Option ParameterValue)) (h : HasFront rows before words) where
   wrong : (fault : QueryFault) → RefusesLine rows before l fault → IsFirstRefusal (TakesLine rows) (RefusesLine rows) (before ++ l ∷ after) fault
   wrong fault refused = record { before = before; here = l; after = after; split = refl; taken = h.taken; refused = refused }
 

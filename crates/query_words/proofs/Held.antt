@@ -5,19 +5,19 @@ use Rattle.std.proofs.lemmas.Bool.{cases_eq}
 use Rattle.std.proofs.lemmas.List.{append_assoc, length-set, get_or-set_same, get_or-set_other, get_or-replicate, length-replicate}
 use Rattle.query_words.specs.declared.fault.QueryFault.{QueryFault}
 use Rattle.query_words.specs.declared.fault.QueryFault.TheVariants.{TooMany, Unknown, Repeated, OutOfScope, Value, Line, Order, NoLine, OutOfMemory}
-use Rattle.query_words.specs.declared.rows.Kind.{Kind}
-use Rattle.query_words.specs.declared.rows.Kind.TheVariants as kind
-use Rattle.query_words.specs.declared.words.Word.{Word}
-use Rattle.query_words.specs.declared.words.Word.TheVariants as word
+use Rattle.query_words.specs.declared.rows.ValueKind.{ValueKind}
+use Rattle.query_words.specs.declared.rows.ValueKind.TheVariants as kind
+use Rattle.query_words.specs.declared.words.ParameterValue.{ParameterValue}
+use Rattle.query_words.specs.declared.words.ParameterValue.TheVariants as word
 use Rattle.query_words.specs.FirstRefusals.{IsFirstRefusal}
 use Rattle.query_words.specs.Parameters.{Parameter, given, TakesParameter, RefusesParameter}
-use Rattle.query_words.specs.Rows.{Named, row_of, kind_of}
+use Rattle.query_words.specs.Rows.{Named, place_of_name, kind_of}
 use Rattle.query_words.specs.Values.{CanRead}
-use Rattle.query_words.specs.Words.{IsWord, IsDegreesOf, SaysNothing, ReadsWord, IsHeld, AreHeld, HasRead, PutsWord, RefusesPut, RefusesWords}
+use Rattle.query_words.specs.Words.{IsParameterValue, IsDegreesOf, SaysNothing, ReadsValue, IsHeld, AreHeld, HasReadParameters, PutsValue, RefusesPut, RefusesParameters}
 use Rattle.query_words.proofs.RefusalLaws.{taken_more}
 use Rattle.query_words.proofs.RowPlaces.{within_rows, given_last, given_other}
 
-degrees_read : (k : Kind) (text : List ℕ) (n : ℤ) → IsDegreesOf k text n → CanRead k text
+degrees_read : (k : ValueKind) (text : List ℕ) (n : ℤ) → IsDegreesOf k text n → CanRead k text
 degrees_read kind.Latitude text n h = (n, h)
 degrees_read kind.Longitude text n h = (n, h)
 degrees_read kind.Time text n h = absurd h
@@ -33,7 +33,7 @@ degrees_read kind.Always text n h = absurd h
 degrees_read kind.Never text n h = absurd h
 degrees_read kind.LeftOut text n h = absurd h
 
-nothing_read : (k : Kind) (text : List ℕ) → SaysNothing k text → CanRead k text
+nothing_read : (k : ValueKind) (text : List ℕ) → SaysNothing k text → CanRead k text
 nothing_read kind.Format text h = h
 nothing_read kind.TextForm text h = h
 nothing_read kind.Always text h = h
@@ -50,28 +50,28 @@ nothing_read kind.Longitude text h = absurd h
 nothing_read kind.LeftOut text h = absurd h
 
 -- a kind with a word can be read
-can_read : (k : Kind) (text : List ℕ) (w : Word) → IsWord k text w → CanRead k text
-can_read k text (word.Time moment) h = subst (λ (k : Kind). CanRead k text) (sym h.0) (moment.micros, h.1)
-can_read k text (word.Patterns list) h = subst (λ (k : Kind). CanRead k text) (sym h.1) (list, h.2)
-can_read k text (word.Nodata nodata) h = subst (λ (k : Kind). CanRead k text) (sym h.0) (nodata, h.1)
-can_read k text (word.Quality quality) h = subst (λ (k : Kind). CanRead k text) (sym h.0) (quality, h.1)
-can_read k text (word.Micros micros) h = subst (λ (k : Kind). CanRead k text) (sym h.0) (micros, h.1)
-can_read k text (word.Flag flag) h = subst (λ (k : Kind). CanRead k text) (sym h.0) (flag, h.1)
-can_read k text (word.Level level) h = subst (λ (k : Kind). CanRead k text) (sym h.0) (level, h.1)
+can_read : (k : ValueKind) (text : List ℕ) (w : ParameterValue) → IsParameterValue k text w → CanRead k text
+can_read k text (word.Time moment) h = subst (λ (k : ValueKind). CanRead k text) (sym h.0) (moment.micros, h.1)
+can_read k text (word.Patterns list) h = subst (λ (k : ValueKind). CanRead k text) (sym h.1) (list, h.2)
+can_read k text (word.Nodata nodata) h = subst (λ (k : ValueKind). CanRead k text) (sym h.0) (nodata, h.1)
+can_read k text (word.Quality quality) h = subst (λ (k : ValueKind). CanRead k text) (sym h.0) (quality, h.1)
+can_read k text (word.Micros micros) h = subst (λ (k : ValueKind). CanRead k text) (sym h.0) (micros, h.1)
+can_read k text (word.Flag flag) h = subst (λ (k : ValueKind). CanRead k text) (sym h.0) (flag, h.1)
+can_read k text (word.Level level) h = subst (λ (k : ValueKind). CanRead k text) (sym h.0) (level, h.1)
 can_read k text (word.Number n) h = degrees_read k text n.millionths h
 can_read k text word.Nothing h = nothing_read k text h
 
-nothing_given : (k : Kind) (o : Option (List ℕ)) (held : Option Word) → IsHeld k o held → held ≡ None → o ≡ None
+nothing_given : (k : ValueKind) (o : Option (List ℕ)) (held : Option ParameterValue) → IsHeld k o held → held ≡ None → o ≡ None
 nothing_given k None held h e = refl
 nothing_given k (Some text) held h e = let is : held ≡ Some h.0 = h.1 in cc
 
-something_given : (k : Kind) (o : Option (List ℕ)) (held : Option Word) → IsHeld k o held → is_some held ≡ true → (text : List ℕ) × (o ≡ Some text)
+something_given : (k : ValueKind) (o : Option (List ℕ)) (held : Option ParameterValue) → IsHeld k o held → is_some held ≡ true → (text : List ℕ) × (o ≡ Some text)
 something_given k None held h e = let no_word : is_some held ≡ false = ap is_some h in cc
 something_given k (Some text) held h e = (text, refl)
 
 -- a parameter's word is put into its free row
-pub puts_word : (rows : List Named) (name value : List ℕ) (words : List (Option Word)) (row : ℕ) (w : Word) → row_of rows name ≡ Some row → is_some (get_or words row None) ≡ false
-    → ReadsWord (kind_of rows row) value w → PutsWord rows name value words (set words row (Some w))
+pub puts_word : (rows : List Named) (name value : List ℕ) (words : List (Option ParameterValue)) (row : ℕ) (w : ParameterValue) → place_of_name rows name ≡ Some row → is_some (get_or words row None) ≡ false
+    → ReadsValue (kind_of rows row) value w → PutsValue rows name value words (set words row (Some w))
 puts_word rows name value words row w names free reads = record {
   row = row;
   names = names;
@@ -82,11 +82,11 @@ puts_word rows name value words row w names free reads = record {
   put = refl;
 }
   where
-    no_word : (o : Option Word) → is_some o ≡ false → o ≡ None
+    no_word : (o : Option ParameterValue) → is_some o ≡ false → o ≡ None
     no_word None e = refl
     no_word (Some x) e = cc
 
-pub start : (rows : List Named) (all : List Parameter) (count : ℕ) (words : List (Option Word)) → length rows ≡ count → words ≡ replicate count None → HasRead rows all [] all words
+pub start : (rows : List Named) (all : List Parameter) (count : ℕ) (words : List (Option ParameterValue)) → length rows ≡ count → words ≡ replicate count None → HasReadParameters rows all [] all words
 start rows all count words size e = record {
   split = refl;
   taken = tt;
@@ -96,34 +96,34 @@ start rows all count words size e = record {
   };
 }
 
-module _ (rows : List Named) (done : List Parameter) (p : Parameter) (words : List (Option Word)) (held : AreHeld rows done words) where
-  free_given : (row : ℕ) → row_of rows p.name ≡ Some row → get_or words row None ≡ None → given rows row done ≡ None
+module _ (rows : List Named) (done : List Parameter) (p : Parameter) (words : List (Option ParameterValue)) (held : AreHeld rows done words) where
+  free_given : (row : ℕ) → place_of_name rows p.name ≡ Some row → get_or words row None ≡ None → given rows row done ≡ None
   free_given row names free = nothing_given (kind_of rows row) (given rows row done) (get_or words row None) (held.each row (within_rows rows p.name row names)) free
 
-  held_at : (more : List (Option Word)) → (put : PutsWord rows p.name p.value words more) → (row : ℕ) → row < length rows → (put.row ≡ row) ⊎ (put.row ≡ row → ⊥)
+  held_at : (more : List (Option ParameterValue)) → (put : PutsValue rows p.name p.value words more) → (row : ℕ) → row < length rows → (put.row ≡ row) ⊎ (put.row ≡ row → ⊥)
       → IsHeld (kind_of rows row) (given rows row (done ++ p ∷ [])) (get_or more row None)
   held_at more put row lt (inl same) =
-      let names : row_of rows p.name ≡ Some row = put.names ∙ ap Some same in
+      let names : place_of_name rows p.name ≡ Some row = put.names ∙ ap Some same in
       let now = given_last rows row done p (free_given row names (subst (λ r. get_or words r None ≡ None) same put.free)) names in
       let set_is : get_or more row None ≡ Some put.w = ap (λ ws. get_or ws row None) put.put ∙ ap (λ r. get_or (set words r (Some put.w)) row None) same ∙ get_or-set_same words row (Some put.w) None (subst (λ n. row < n) (sym held.size) lt) in
-      subst (λ (o : Option (List ℕ)). IsHeld (kind_of rows row) o (get_or more row None)) (sym now) (put.w, set_is, subst (λ r. IsWord (kind_of rows r) p.value put.w) same put.is_word)
+      subst (λ (o : Option (List ℕ)). IsHeld (kind_of rows row) o (get_or more row None)) (sym now) (put.w, set_is, subst (λ r. IsParameterValue (kind_of rows r) p.value put.w) same put.is_word)
   held_at more put row lt (inr other) =
       let now = given_other rows row put.row done p put.names other in
       let set_is : get_or more row None ≡ get_or words row None = ap (λ ws. get_or ws row None) put.put ∙ get_or-set_other words put.row row (Some put.w) None (λ e. other (sym e)) in
-      subst (λ (o : Option (List ℕ)). IsHeld (kind_of rows row) o (get_or more row None)) (sym now) (subst (λ (h : Option Word). IsHeld (kind_of rows row) (given rows row done) h) (sym set_is) (held.each row lt))
+      subst (λ (o : Option (List ℕ)). IsHeld (kind_of rows row) o (get_or more row None)) (sym now) (subst (λ (h : Option ParameterValue). IsHeld (kind_of rows row) (given rows row done) h) (sym set_is) (held.each row lt))
 
   -- a word more
-  pub held_more : (more : List (Option Word)) → PutsWord rows p.name p.value words more → AreHeld rows (done ++ p ∷ []) more
+  pub held_more : (more : List (Option ParameterValue)) → PutsValue rows p.name p.value words more → AreHeld rows (done ++ p ∷ []) more
   held_more more put = record { size = ap length put.put ∙ length-set words put.row (Some put.w) ∙ held.size; each = λ row lt. held_at more put row lt (cases_eq put.row row) }
 
-  pub takes : (more : List (Option Word)) → PutsWord rows p.name p.value words more → TakesParameter rows done p
+  pub takes : (more : List (Option ParameterValue)) → PutsValue rows p.name p.value words more → TakesParameter rows done p
   takes more put = record { row = put.row; is_new = record { names = put.names; free = free_given put.row put.names put.free }; reads = put.reads }
 
   -- a word that isn't put, for want of memory or for a wrong parameter
   pub refuses : (fault : QueryFault) → RefusesPut rows p.number p.name p.value words fault → (fault ≡ OutOfMemory) ⊎ RefusesParameter rows done p fault
   refuses (Unknown n) h = inr h
   refuses (Repeated n) h =
-      let names : row_of rows p.name ≡ Some h.1.0 = h.1.1 in
+      let names : place_of_name rows p.name ≡ Some h.1.0 = h.1.1 in
       let earlier = something_given (kind_of rows h.1.0) (given rows h.1.0 done) (get_or words h.1.0 None) (held.each h.1.0 (within_rows rows p.name h.1.0 names)) h.1.2 in
       inr (h.0, record { row = h.1.0; names = names; earlier = earlier.0; taken = earlier.1 })
   refuses (OutOfScope n) h = inr (h.0, record { row = h.1.0; is_new = record { names = h.1.1; free = free_given h.1.0 h.1.1 h.1.2 }; out = h.1.3 })
@@ -134,8 +134,8 @@ module _ (rows : List Named) (done : List Parameter) (p : Parameter) (words : Li
   refuses Order h = absurd h
   refuses NoLine h = absurd h
 
-module _ (rows : List Named) (all done rest : List Parameter) (p : Parameter) (words : List (Option Word)) (read : HasRead rows all done (p ∷ rest) words) where
-  pub put_more : (more : List (Option Word)) → PutsWord rows p.name p.value words more → HasRead rows all (done ++ p ∷ []) rest more
+module _ (rows : List Named) (all done rest : List Parameter) (p : Parameter) (words : List (Option ParameterValue)) (read : HasReadParameters rows all done (p ∷ rest) words) where
+  pub put_more : (more : List (Option ParameterValue)) → PutsValue rows p.name p.value words more → HasReadParameters rows all (done ++ p ∷ []) rest more
   put_more more put = record {
     split = read.split ∙ sym (append_assoc done (p ∷ []) rest);
     taken = taken_more (TakesParameter rows) [] done p read.taken (takes rows done p words read.held more put);
@@ -145,9 +145,9 @@ module _ (rows : List Named) (all done rest : List Parameter) (p : Parameter) (w
   first : (fault : QueryFault) → RefusesParameter rows done p fault → IsFirstRefusal (TakesParameter rows) (RefusesParameter rows) all fault
   first fault refused = record { before = done; here = p; after = rest; split = read.split; taken = read.taken; refused = refused }
 
-  stopped : (fault : QueryFault) → (fault ≡ OutOfMemory) ⊎ IsFirstRefusal (TakesParameter rows) (RefusesParameter rows) all fault → RefusesWords rows all fault
+  stopped : (fault : QueryFault) → (fault ≡ OutOfMemory) ⊎ IsFirstRefusal (TakesParameter rows) (RefusesParameter rows) all fault → RefusesParameters rows all fault
   stopped OutOfMemory h = tt
-  stopped fault (inl starved) = subst (λ (f : QueryFault). RefusesWords rows all f) (sym starved) tt
+  stopped fault (inl starved) = subst (λ (f : QueryFault). RefusesParameters rows all f) (sym starved) tt
   stopped TooMany (inr h) = h
   stopped (Unknown n) (inr h) = h
   stopped (Repeated n) (inr h) = h
@@ -158,5 +158,5 @@ module _ (rows : List Named) (all done rest : List Parameter) (p : Parameter) (w
   stopped NoLine (inr h) = h
 
   -- a refused one
-  pub put_refused : (fault : QueryFault) → RefusesPut rows p.number p.name p.value words fault → RefusesWords rows all fault
+  pub put_refused : (fault : QueryFault) → RefusesPut rows p.number p.name p.value words fault → RefusesParameters rows all fault
   put_refused fault h = elim (refuses rows done p words read.held fault h) [ inl starved ↦ stopped fault (inl starved) | inr wrong ↦ stopped fault (inr (first fault wrong)) ]

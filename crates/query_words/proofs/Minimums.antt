@@ -11,7 +11,7 @@ use Rattle.channel_globs.specs.declared.patterns.GlobFault.{GlobFault}
 use Rattle.channel_globs.specs.declared.patterns.GlobFault.TheVariants.{TooMany, Character, Length, OutOfMemory}
 use Rattle.channel_globs.specs.PatternText.{RefusesList}
 use Rattle.channel_globs.proofs.OneList.{no_list}
-use Rattle.query_words.specs.declared.rows.Kind.TheVariants.{Patterns}
+use Rattle.query_words.specs.declared.rows.ValueKind.TheVariants.{Patterns}
 use Rattle.query_words.specs.Values.{IsMinimum}
 use Rattle.query_words.specs.Words.{CannotRead, list_fault}
 

@@ -5,7 +5,8 @@ use Rattle.list_laws.proofs.Answers.{only_from}
 use Rattle.dataselect.specs.declared.query.DataQuery.{DataQuery}
 use Rattle.dataselect.specs.declared.query.Selection.{Selection}
 use Rattle.query_words.specs.DataGet.{AreOptions, IsDataGet, IsBackwards, IsGetFault, RefusesGet}
-use Rattle.query_words.specs.Rows.{Text, Named, data_rows}
+use Rattle.query_words.specs.Gets.{LacksNone}
+use Rattle.query_words.specs.Rows.{Text, Named, data_names}
 use Rattle.query_words.specs.Parameters.{Parameter, parameters_of}
 use Rattle.query_words.specs.declared.fault.QueryFault.{QueryFault}
 use Rattle.query_words.specs.declared.fault.QueryFault.TheVariants.{OutOfMemory}
@@ -23,8 +24,8 @@ one_made rows ps q r h k selections =
 
 one_query : (query : Text) (q r : DataQuery) → IsDataGet query q → IsDataGet query r → q ≡ r
 one_query query q r h k =
-    let selection = one_selection data_rows (parameters_of query) h.selection k.selection h.names h.window k.names k.window in
-    one_made data_rows (parameters_of query) q r h.options k.options (h.only ∙ ap (λ (s : Selection). s ∷ []) selection ∙ sym k.only)
+    let selection = one_selection data_names (parameters_of query) h.selection k.selection h.names h.window k.names k.window in
+    one_made data_names (parameters_of query) q r h.options k.options (h.only ∙ ap (λ (s : Selection). s ∷ []) selection ∙ sym k.only)
 
 forwards : (query : Text) (q : DataQuery) → IsDataGet query q → IsBackwards query → ⊥
 forwards query q h k =
@@ -32,12 +33,12 @@ forwards query q h k =
 
 pub only_get : (query : Text) (answer : Result DataQuery QueryFault) → MatchResult answer (IsDataGet query) (IsGetFault query) → IsOnly (IsDataGet query) (IsGetFault query) answer
 only_get query answer right =
-    only_from (IsDataGet query) (IsGetFault query) (one_query query) (one_fault data_rows IsBackwards (λ q k. k.right) query)
-    (λ q fault h k. no_fault data_rows IsBackwards query fault h.right (forwards query q h) k) answer right
+    only_from (IsDataGet query) (IsGetFault query) (one_query query) (one_fault data_names LacksNone IsBackwards (λ q k. k.right) (λ q k. absurd k) (λ q k l. k) query)
+    (λ q fault h k. no_fault data_names LacksNone IsBackwards query fault h.right (λ k. k) (forwards query q h) k) answer right
 
 pub only_read : (query : Text) (q : DataQuery) → IsDataGet query q → IsOnly (IsDataGet query) (IsGetFault query) (Ok q)
 only_read query q h = only_get query (Ok q) h
 
 -- the same of a reader that may want memory
 pub only_refused : (query : Text) (fault : QueryFault) → RefusesGet query fault → (fault ≡ OutOfMemory) ⊎ IsOnly (IsDataGet query) (IsGetFault query) (Err fault)
-only_refused query fault h = refused_or_starved data_rows IsBackwards (IsDataGet query) query (only_get query) fault h
+only_refused query fault h = refused_or_starved data_names LacksNone IsBackwards (IsDataGet query) query (only_get query) fault h

@@ -3,7 +3,7 @@ use Rattle.std.proofs.Common.{◌≡◌, ◌⊎◌, [], Result, Ok, Err, MatchRe
 use Rattle.list_laws.specs.Only.{IsOnly}
 use Rattle.list_laws.proofs.Answers.{only_from}
 use Rattle.dataselect.specs.declared.query.DataQuery.{DataQuery}
-use Rattle.query_words.specs.Bodies.{parameters_in, front_of, rest_of}
+use Rattle.query_words.specs.Bodies.{parameters_in, parameter_lines, selection_lines}
 use Rattle.query_words.specs.DataPost.{IsDataPost, IsTurned, IsPostFault, RefusesPost}
 use Rattle.query_words.specs.Posts.{IsRightBody}
 use Rattle.query_words.specs.Rows.{Text, data_options}
@@ -14,10 +14,10 @@ use Rattle.query_words.proofs.OnePost.{one_selections, no_fault, one_fault, refu
 use Rattle.query_words.proofs.SelectionSteps.{selections_taken}
 
 one_query : (body : Text) (q r : DataQuery) → IsDataPost body q → IsDataPost body r → q ≡ r
-one_query body q r h k = one_made data_options (parameters_in (front_of body)) q r h.options k.options (one_selections (rest_of body) q.selections r.selections h.selections_are k.selections_are)
+one_query body q r h k = one_made data_options (parameters_in (parameter_lines body)) q r h.options k.options (one_selections (selection_lines body) q.selections r.selections h.selections_are k.selections_are)
 
 right_body : (body : Text) (q : DataQuery) → IsDataPost body q → IsRightBody data_options body
-right_body body q h = record { right = h.right; rest = selections_taken [] (rest_of body) q.selections h.selections_are }
+right_body body q h = record { right = h.right; rest = selections_taken [] (selection_lines body) q.selections h.selections_are }
 
 pub only_post : (body : Text) (answer : Result DataQuery QueryFault) → MatchResult answer (IsDataPost body) (IsPostFault body) → IsOnly (IsDataPost body) (IsPostFault body) answer
 only_post body answer right =

@@ -9,19 +9,19 @@ use Rattle.channel_globs.specs.declared.nslc.Part.TheVariants.{Network, Station,
 use Rattle.channel_globs.proofs.OneList.{one_list}
 use Rattle.dataselect.specs.declared.query.Selection.{Selection}
 use Rattle.query_words.specs.FirstRefusals.{AreTaken, IsFirstRefusal}
-use Rattle.query_words.specs.Gets.{IsLimit, IsInTime, AreCodes, AreLimits, IsRight, IsFirstWrong, IsFaultBy, RefusesBy}
-use Rattle.query_words.specs.Rows.{Text, Named, row_of, kind_of}
+use Rattle.query_words.specs.Gets.{IsLimit, IsWindowInOrder, AreCodes, AreLimits, IsRight, IsFirstWrong, IsFaultBy, RefusesBy}
+use Rattle.query_words.specs.Rows.{Text, Named, place_of_name, kind_of}
 use Rattle.query_words.specs.Parameters.{Parameter, pairs_of, parameters_of, given, IsNew, TakesParameter, IsRepeated, RefusesParameter}
 use Rattle.query_words.specs.Values.{level_of, CanRead, Reads, IsLeftOut}
-use Rattle.query_words.specs.declared.rows.Kind.{Kind}
-use Rattle.query_words.specs.declared.rows.Kind.TheVariants as kind
-use Rattle.query_words.specs.Words.{RefusesWords}
+use Rattle.query_words.specs.declared.rows.ValueKind.{ValueKind}
+use Rattle.query_words.specs.declared.rows.ValueKind.TheVariants as kind
+use Rattle.query_words.specs.Words.{RefusesParameters}
 use Rattle.query_words.specs.declared.fault.QueryFault.{QueryFault}
 use Rattle.query_words.specs.declared.fault.QueryFault.TheVariants.{TooMany, Unknown, Repeated, OutOfScope, Value, Line, Order, NoLine, OutOfMemory}
 use Rattle.query_words.proofs.RefusalLaws.{none_refused, one_refused}
 
 -- what can be read isn't left out
-not_left_out : (k : Kind) (text : Text) → CanRead k text → IsLeftOut k text → ⊥
+not_left_out : (k : ValueKind) (text : Text) → CanRead k text → IsLeftOut k text → ⊥
 not_left_out kind.Level text h out = let e : level_of (codes "response") ≡ Some h.0 = ap level_of (sym out) ∙ h.1 in cc
 not_left_out kind.TextForm text h out = let e : codes "text" ≡ codes "xml" = sym h ∙ out in cc
 not_left_out kind.Always text h out = let e : Some true ≡ Some false = sym h ∙ out in cc
@@ -39,10 +39,10 @@ not_left_out kind.Longitude text h out = out
 
 -- one parameter behind others
 module _ (rows : List Named) (before : List Parameter) (p : Parameter) where
-  same_row : (r s : ℕ) → row_of rows p.name ≡ Some r → row_of rows p.name ≡ Some s → r ≡ s
+  same_row : (r s : ℕ) → place_of_name rows p.name ≡ Some r → place_of_name rows p.name ≡ Some s → r ≡ s
   same_row r s h k = let e : Some r ≡ Some s = sym h ∙ k in cc
 
-  known : (r : ℕ) → row_of rows p.name ≡ Some r → row_of rows p.name ≡ None → ⊥
+  known : (r : ℕ) → place_of_name rows p.name ≡ Some r → place_of_name rows p.name ≡ None → ⊥
   known r h k = let e : Some r ≡ None = sym h ∙ k in cc
 
   not_repeated : (r : ℕ) → IsNew rows before p r → IsRepeated rows before p → ⊥
@@ -127,61 +127,71 @@ one_selection rows ps s t h p k q =
 pub some_one : {A : Type 0} (a b : A) (o : Option A) → o ≡ Some a → o ≡ Some b → a ≡ b
 some_one a b o h k = let e : Some a ≡ Some b = sym h ∙ k in cc
 
-pub not_backwards : (start end : Option Moment) (from to : Moment) → start ≡ Some from → end ≡ Some to → IsInTime start end → to.micros <ℤ from.micros → ⊥
+pub not_backwards : (start end : Option Moment) (from to : Moment) → start ≡ Some from → end ≡ Some to → IsWindowInOrder start end → to.micros <ℤ from.micros → ⊥
 not_backwards start end from to a b forwards order =
-    let both : from.micros ≤ℤ to.micros = subst (λ (e : Option Moment). IsInTime (Some from) e) b (subst (λ (s : Option Moment). IsInTime s end) a forwards) in
+    let both : from.micros ≤ℤ to.micros = subst (λ (e : Option Moment). IsWindowInOrder (Some from) e) b (subst (λ (s : Option Moment). IsWindowInOrder s end) a forwards) in
     omega (arith, ints, both, order)
 
--- a method, and what it calls limits in no order
-module _ (rows : List Named) (Turned : Text → Type 0) where
-  -- a right query string whose limits are in order has no fault
-  pub no_fault : (query : Text) (fault : QueryFault) → IsRight rows query → ¬ (Turned query) → IsFaultBy rows Turned query fault → ⊥
-  no_fault query TooMany right ordered k = omega (arith, right.few, k)
-  no_fault query (Unknown n) right ordered k = no_first rows (parameters_of query) (Unknown n) right.taken k.first
-  no_fault query (Repeated n) right ordered k = no_first rows (parameters_of query) (Repeated n) right.taken k.first
-  no_fault query (OutOfScope n) right ordered k = no_first rows (parameters_of query) (OutOfScope n) right.taken k.first
-  no_fault query (Value n) right ordered k = no_first rows (parameters_of query) (Value n) right.taken k.first
-  no_fault query Order right ordered k = ordered k
-  no_fault query (Line n) right ordered k = k
-  no_fault query NoLine right ordered k = k
-  no_fault query OutOfMemory right ordered k = k
+-- a method, and what it says is lacking, or calls limits in no order
+module _ (rows : List Named) (Lacks Turned : Text → Type 0) where
+  -- a right query string that lacks nothing, and whose limits are in order, has no fault
+  pub no_fault : (query : Text) (fault : QueryFault) → IsRight rows query → ¬ (Lacks query) → ¬ (Turned query) → IsFaultBy rows Lacks Turned query fault → ⊥
+  no_fault query TooMany right whole ordered k = omega (arith, right.few, k)
+  no_fault query (Unknown n) right whole ordered k = no_first rows (parameters_of query) (Unknown n) right.taken k.first
+  no_fault query (Repeated n) right whole ordered k = no_first rows (parameters_of query) (Repeated n) right.taken k.first
+  no_fault query (OutOfScope n) right whole ordered k = no_first rows (parameters_of query) (OutOfScope n) right.taken k.first
+  no_fault query (Value n) right whole ordered (inl k) = no_first rows (parameters_of query) (Value n) right.taken k.first
+  no_fault query (Value n) right whole ordered (inr k) = whole k.1
+  no_fault query Order right whole ordered k = ordered k
+  no_fault query (Line n) right whole ordered k = k
+  no_fault query NoLine right whole ordered k = k
+  no_fault query OutOfMemory right whole ordered k = k
 
-  -- a fault is too many parameters, the first wrong one, or the order
+  -- a fault is too many parameters, the first wrong one, what is lacking, or the order
   data Why (query : Text) (fault : QueryFault) : Type 0 where
     many : fault ≡ TooMany → 1000 < length (pairs_of query) → Why query fault
     wrong : IsFirstWrong rows query fault → Why query fault
+    lacking : fault ≡ Value 0 → Lacks query → Why query fault
     order : fault ≡ Order → Turned query → Why query fault
 
-  why : (query : Text) (fault : QueryFault) → IsFaultBy rows Turned query fault → Why query fault
+  why : (query : Text) (fault : QueryFault) → IsFaultBy rows Lacks Turned query fault → Why query fault
   why query TooMany h = many refl h
   why query (Unknown n) h = wrong h
   why query (Repeated n) h = wrong h
   why query (OutOfScope n) h = wrong h
-  why query (Value n) h = wrong h
+  why query (Value n) (inl h) = wrong h
+  why query (Value n) (inr h) = lacking (ap Value h.0) h.1
   why query Order h = order refl h
   why query (Line n) h = absurd h
   why query NoLine h = absurd h
   why query OutOfMemory h = absurd h
 
-  module _ (right_of : (query : Text) → Turned query → IsRight rows query) where
+  module _ (right_of : (query : Text) → Turned query → IsRight rows query) (lacks_of : (query : Text) → Lacks query → IsRight rows query) (apart : (query : Text) → Lacks query → Turned query → ⊥) where
     one_why : (query : Text) (f g : QueryFault) → Why query f → Why query g → f ≡ g
     one_why query f g (many a h) (many b k) = a ∙ sym b
     one_why query f g (many a h) (wrong k) = absurd (omega (arith, h, k.few))
+    one_why query f g (many a h) (lacking b k) = absurd (let right = lacks_of query k in omega (arith, h, right.few))
     one_why query f g (many a h) (order b k) = absurd (let right = right_of query k in omega (arith, h, right.few))
     one_why query f g (wrong h) (many b k) = absurd (omega (arith, k, h.few))
     one_why query f g (wrong h) (wrong k) = one_first rows (parameters_of query) f g h.first k.first
+    one_why query f g (wrong h) (lacking b k) = absurd (no_first rows (parameters_of query) f (lacks_of query k).taken h.first)
     one_why query f g (wrong h) (order b k) = absurd (no_first rows (parameters_of query) f (right_of query k).taken h.first)
+    one_why query f g (lacking a h) (many b k) = absurd (let right = lacks_of query h in omega (arith, k, right.few))
+    one_why query f g (lacking a h) (wrong k) = absurd (no_first rows (parameters_of query) g (lacks_of query h).taken k.first)
+    one_why query f g (lacking a h) (lacking b k) = a ∙ sym b
+    one_why query f g (lacking a h) (order b k) = absurd (apart query h k)
+    one_why query f g (order a h) (lacking b k) = absurd (apart query k h)
     one_why query f g (order a h) (many b k) = absurd (let right = right_of query h in omega (arith, k, right.few))
     one_why query f g (order a h) (wrong k) = absurd (no_first rows (parameters_of query) g (right_of query h).taken k.first)
     one_why query f g (order a h) (order b k) = a ∙ sym b
 
-    pub one_fault : (query : Text) (f g : QueryFault) → IsFaultBy rows Turned query f → IsFaultBy rows Turned query g → f ≡ g
+    pub one_fault : (query : Text) (f g : QueryFault) → IsFaultBy rows Lacks Turned query f → IsFaultBy rows Lacks Turned query g → f ≡ g
     one_fault query f g h k = one_why query f g (why query f h) (why query g k)
 
   -- what a reader that may want memory refuses, the definition does
   pub refused_or_starved : {Q : Type 0} (Is : Q → Type 0) (query : Text)
-      → ((answer : Result Q QueryFault) → MatchResult answer Is (IsFaultBy rows Turned query) → IsOnly Is (IsFaultBy rows Turned query) answer) → (fault : QueryFault) → RefusesBy rows Turned query fault
-      → (fault ≡ OutOfMemory) ⊎ IsOnly Is (IsFaultBy rows Turned query) (Err fault)
+      → ((answer : Result Q QueryFault) → MatchResult answer Is (IsFaultBy rows Lacks Turned query) → IsOnly Is (IsFaultBy rows Lacks Turned query) answer) → (fault : QueryFault) → RefusesBy rows Lacks Turned query fault
+      → (fault ≡ OutOfMemory) ⊎ IsOnly Is (IsFaultBy rows Lacks Turned query) (Err fault)
   refused_or_starved Is query only TooMany h = inr (only (Err TooMany) h)
   refused_or_starved Is query only (Unknown n) h = inr (only (Err (Unknown n)) h)
   refused_or_starved Is query only (Repeated n) h = inr (only (Err (Repeated n)) h)
@@ -193,12 +203,12 @@ module _ (rows : List Named) (Turned : Text → Type 0) where
   refused_or_starved Is query only OutOfMemory h = inl refl
 
   -- what the words are refused for, the query string is
-  pub words_refused : (query : Text) → length (pairs_of query) ≤ 1000 → (fault : QueryFault) → RefusesWords rows (parameters_of query) fault → RefusesBy rows Turned query fault
+  pub words_refused : (query : Text) → length (pairs_of query) ≤ 1000 → (fault : QueryFault) → RefusesParameters rows (parameters_of query) fault → RefusesBy rows Lacks Turned query fault
   words_refused query few TooMany h = absurd h.refused
   words_refused query few (Unknown n) h = record { few = few; first = h }
   words_refused query few (Repeated n) h = record { few = few; first = h }
   words_refused query few (OutOfScope n) h = record { few = few; first = h }
-  words_refused query few (Value n) h = record { few = few; first = h }
+  words_refused query few (Value n) h = inl (record { few = few; first = h })
   words_refused query few (Line n) h = h.refused
   words_refused query few Order h = absurd h.refused
   words_refused query few NoLine h = h.refused

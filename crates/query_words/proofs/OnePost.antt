@@ -5,7 +5,7 @@ use Rattle.list_laws.specs.Only.{IsOnly}
 use Rattle.channel_globs.specs.declared.nslc.Part.TheVariants.{Network, Station, Location, Channel}
 use Rattle.channel_globs.proofs.OneList.{one_list}
 use Rattle.dataselect.specs.declared.query.Selection.{Selection}
-use Rattle.query_words.specs.Bodies.{Numbered, Fields, AreSix, AreFields, IsSelection, AreSelections, TakesLine, RefusesLine, TakesSelection, RefusesSelection, parameters_in, parameter_of, front_of, rest_of, limit_text}
+use Rattle.query_words.specs.Bodies.{Numbered, Fields, AreSix, AreFields, IsSelection, AreSelections, TakesLine, RefusesLine, TakesSelection, RefusesSelection, parameters_in, parameter_of, parameter_lines, selection_lines, limit_text}
 use Rattle.query_words.specs.FirstRefusals.{AreTaken, IsFirstRefusal}
 use Rattle.query_words.specs.Fronts.{RefusesFront}
 use Rattle.query_words.specs.Parameters.{RefusesParameter}
@@ -138,10 +138,10 @@ one_selections (l ∷ ls) (s ∷ ss) (t ∷ ts) h k =
 module _ (options : List Named) (Turned : Text → Type 0) where
   -- a fault is too many lines, the first wrong one, the order, or that none selects
   data Why (body : Text) (fault : QueryFault) : Type 0 where
-    many : fault ≡ TooMany → (1000 < length (front_of body)) ⊎ (10_000 < length (rest_of body)) → Why body fault
+    many : fault ≡ TooMany → (1000 < length (parameter_lines body)) ⊎ (10_000 < length (selection_lines body)) → Why body fault
     line : IsFirstWrongLine options body fault → Why body fault
     order : fault ≡ Order → IsRightBody options body → Turned body → Why body fault
-    none : fault ≡ NoLine → IsRightBody options body → ¬ (Turned body) → rest_of body ≡ [] → Why body fault
+    none : fault ≡ NoLine → IsRightBody options body → ¬ (Turned body) → selection_lines body ≡ [] → Why body fault
 
   why : (body : Text) (fault : QueryFault) → IsBodyFaultBy options Turned body fault → Why body fault
   why body TooMany h = many refl h
@@ -154,19 +154,19 @@ module _ (options : List Named) (Turned : Text → Type 0) where
   why body NoLine h = none refl h.0 h.1 h.2
   why body OutOfMemory h = absurd h
 
-  not_many : (body : Text) → AreFew body → (1000 < length (front_of body)) ⊎ (10_000 < length (rest_of body)) → ⊥
+  not_many : (body : Text) → AreFew body → (1000 < length (parameter_lines body)) ⊎ (10_000 < length (selection_lines body)) → ⊥
   not_many body few (inl more) = omega (arith, few.parameters, more)
   not_many body few (inr more) = omega (arith, few.selections, more)
 
   not_wrong : (body : Text) (fault : QueryFault) → IsRightBody options body → IsWrongFront options body fault ⊎ IsWrongRest options body fault → ⊥
-  not_wrong body fault right (inl h) = no_front_fault options (front_of body) fault right.right.taken h
-  not_wrong body fault right (inr h) = no_rest_fault (rest_of body) fault right.rest h.first
+  not_wrong body fault right (inl h) = no_front_fault options (parameter_lines body) fault right.right.taken h
+  not_wrong body fault right (inr h) = no_rest_fault (selection_lines body) fault right.rest h.first
 
   one_line : (body : Text) (f g : QueryFault) → IsWrongFront options body f ⊎ IsWrongRest options body f → IsWrongFront options body g ⊎ IsWrongRest options body g → f ≡ g
-  one_line body f g (inl h) (inl k) = one_front_fault options (front_of body) f g h k
-  one_line body f g (inl h) (inr k) = absurd (no_front_fault options (front_of body) f k.taken h)
-  one_line body f g (inr h) (inl k) = absurd (no_front_fault options (front_of body) g h.taken k)
-  one_line body f g (inr h) (inr k) = one_rest_fault (rest_of body) f g h.first k.first
+  one_line body f g (inl h) (inl k) = one_front_fault options (parameter_lines body) f g h k
+  one_line body f g (inl h) (inr k) = absurd (no_front_fault options (parameter_lines body) f k.taken h)
+  one_line body f g (inr h) (inl k) = absurd (no_front_fault options (parameter_lines body) g h.taken k)
+  one_line body f g (inr h) (inr k) = one_rest_fault (selection_lines body) f g h.first k.first
 
   one_why : (body : Text) (f g : QueryFault) → Why body f → Why body g → f ≡ g
   one_why body f g (many a h) (many b k) = a ∙ sym b
@@ -189,14 +189,14 @@ module _ (options : List Named) (Turned : Text → Type 0) where
   pub one_fault : (body : Text) (f g : QueryFault) → IsBodyFaultBy options Turned body f → IsBodyFaultBy options Turned body g → f ≡ g
   one_fault body f g h k = one_why body f g (why body f h) (why body g k)
 
-  no_why : (body : Text) (fault : QueryFault) → IsRightBody options body → ¬ (Turned body) → 0 < length (rest_of body) → Why body fault → ⊥
+  no_why : (body : Text) (fault : QueryFault) → IsRightBody options body → ¬ (Turned body) → 0 < length (selection_lines body) → Why body fault → ⊥
   no_why body fault right ordered some (many a k) = not_many body right.right.few k
   no_why body fault right ordered some (line k) = not_wrong body fault right k.first
   no_why body fault right ordered some (order a k t) = ordered t
   no_why body fault right ordered some (none a k t e) = let empty = ap length e in omega (arith, some, empty)
 
   -- a right body whose limits are in order and that selects has no fault
-  pub no_fault : (body : Text) (fault : QueryFault) → IsRightBody options body → ¬ (Turned body) → 0 < length (rest_of body) → IsBodyFaultBy options Turned body fault → ⊥
+  pub no_fault : (body : Text) (fault : QueryFault) → IsRightBody options body → ¬ (Turned body) → 0 < length (selection_lines body) → IsBodyFaultBy options Turned body fault → ⊥
   no_fault body fault right ordered some k = no_why body fault right ordered some (why body fault k)
 
   -- what a reader that may want memory refuses, the definition does
@@ -214,7 +214,7 @@ module _ (options : List Named) (Turned : Text → Type 0) where
   refused_or_starved Is body only OutOfMemory h = inl refl
 
   -- what the parameter lines are refused for, the body is
-  pub front_refuses : (body : Text) (fault : QueryFault) → AreFew body → RefusesFront options (front_of body) fault → RefusesBodyBy options Turned body fault
+  pub front_refuses : (body : Text) (fault : QueryFault) → AreFew body → RefusesFront options (parameter_lines body) fault → RefusesBodyBy options Turned body fault
   front_refuses body TooMany few h = absurd h.refused
   front_refuses body (Unknown n) few h = record { few = few; first = inl h }
   front_refuses body (Repeated n) few h = record { few = few; first = inl h }
@@ -226,7 +226,7 @@ module _ (options : List Named) (Turned : Text → Type 0) where
   front_refuses body OutOfMemory few h = tt
 
   -- and what the lines behind them are
-  pub rest_refuses : (body : Text) (fault : QueryFault) → IsRightFront options body → RefusesRest (rest_of body) fault → RefusesBodyBy options Turned body fault
+  pub rest_refuses : (body : Text) (fault : QueryFault) → IsRightFront options body → RefusesRest (selection_lines body) fault → RefusesBodyBy options Turned body fault
   rest_refuses body (Line n) right h = record { few = right.few; first = inr (record { taken = right.taken; first = h }) }
   rest_refuses body OutOfMemory right h = tt
   rest_refuses body TooMany right h = absurd h.refused

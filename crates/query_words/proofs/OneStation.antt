@@ -7,12 +7,12 @@ use Rattle.exact_time.specs.declared.moment.Moment.{Moment}
 use Rattle.exact_time.specs.Decimals.{IsDecimal}
 use Rattle.exact_time.proofs.DecimalTexts.{only_decimal}
 use Rattle.dataselect.specs.declared.query.Selection.{Selection}
-use Rattle.query_words.specs.Bodies.{parameters_in, front_of, rest_of}
-use Rattle.query_words.specs.Gets.{IsInTime}
+use Rattle.query_words.specs.Bodies.{parameters_in, parameter_lines, selection_lines}
+use Rattle.query_words.specs.Gets.{IsWindowInOrder, LacksNone}
 use Rattle.query_words.specs.Parameters.{Parameter, parameters_of}
 use Rattle.query_words.specs.Places.{IsBound, AreBounds, IsAreaInOrder, AreStationOptions}
 use Rattle.query_words.specs.Posts.{IsRightBody}
-use Rattle.query_words.specs.Rows.{Text, Named, station_rows, station_options}
+use Rattle.query_words.specs.Rows.{Text, Named, station_names, station_options}
 use Rattle.query_words.specs.StationGet.{IsStationGet, IsStationTurned, IsStationGetFault, RefusesStationGet}
 use Rattle.query_words.specs.StationPost.{IsStationPost, IsAreaTurned, IsStationPostFault, RefusesStationPost}
 use Rattle.query_words.specs.declared.fault.QueryFault.{QueryFault}
@@ -63,35 +63,35 @@ one_made rows ps q r h k selections =
 
 one_query : (query : Text) (q r : StationQuery) → IsStationGet query q → IsStationGet query r → q ≡ r
 one_query query q r h k =
-    let selection = one_selection station_rows (parameters_of query) h.selection k.selection h.names h.window k.names k.window in
-    one_made station_rows (parameters_of query) q r h.options k.options (h.only ∙ ap (λ (s : Selection). s ∷ []) selection ∙ sym k.only)
+    let selection = one_selection station_names (parameters_of query) h.selection k.selection h.names h.window k.names k.window in
+    one_made station_names (parameters_of query) q r h.options k.options (h.only ∙ ap (λ (s : Selection). s ∷ []) selection ∙ sym k.only)
 
 not_turned : (query : Text) (q : StationQuery) → IsStationGet query q → IsStationTurned query → ⊥
 not_turned query q h k =
     elim k.turned [
       | inl late ↦
-          late (subst (λ (m : Option Moment). IsInTime k.start m) (one_limit _ h.selection.end k.end h.window.end_is k.window.end_is)
-          (subst (λ (m : Option Moment). IsInTime m h.selection.end) (one_limit _ h.selection.start k.start h.window.start_is k.window.start_is) h.in_time))
-      | inr off ↦ off (subst (λ (a : Area). IsAreaInOrder a) (one_area station_rows (parameters_of query) q.area k.area h.options.bounds k.bounds) h.in_order)
+          late (subst (λ (m : Option Moment). IsWindowInOrder k.start m) (one_limit _ h.selection.end k.end h.window.end_is k.window.end_is)
+          (subst (λ (m : Option Moment). IsWindowInOrder m h.selection.end) (one_limit _ h.selection.start k.start h.window.start_is k.window.start_is) h.in_time))
+      | inr off ↦ off (subst (λ (a : Area). IsAreaInOrder a) (one_area station_names (parameters_of query) q.area k.area h.options.bounds k.bounds) h.in_order)
     ]
 
 pub only_get : (query : Text) (answer : Result StationQuery QueryFault) → MatchResult answer (IsStationGet query) (IsStationGetFault query) → IsOnly (IsStationGet query) (IsStationGetFault query) answer
 only_get query answer right =
-    only_from (IsStationGet query) (IsStationGetFault query) (one_query query) (one_fault station_rows IsStationTurned (λ q k. k.right) query)
-    (λ q fault h k. no_fault station_rows IsStationTurned query fault h.right (not_turned query q h) k) answer right
+    only_from (IsStationGet query) (IsStationGetFault query) (one_query query) (one_fault station_names LacksNone IsStationTurned (λ q k. k.right) (λ q k. absurd k) (λ q k l. k) query)
+    (λ q fault h k. no_fault station_names LacksNone IsStationTurned query fault h.right (λ k. k) (not_turned query q h) k) answer right
 
 -- the same of a reader that may want memory
 pub only_refused : (query : Text) (fault : QueryFault) → RefusesStationGet query fault → (fault ≡ OutOfMemory) ⊎ IsOnly (IsStationGet query) (IsStationGetFault query) (Err fault)
-only_refused query fault h = refused_or_starved station_rows IsStationTurned (IsStationGet query) query (only_get query) fault h
+only_refused query fault h = refused_or_starved station_names LacksNone IsStationTurned (IsStationGet query) query (only_get query) fault h
 
 one_post : (body : Text) (q r : StationQuery) → IsStationPost body q → IsStationPost body r → q ≡ r
-one_post body q r h k = one_made station_options (parameters_in (front_of body)) q r h.options k.options (one_selections (rest_of body) q.selections r.selections h.selections_are k.selections_are)
+one_post body q r h k = one_made station_options (parameters_in (parameter_lines body)) q r h.options k.options (one_selections (selection_lines body) q.selections r.selections h.selections_are k.selections_are)
 
 right_body : (body : Text) (q : StationQuery) → IsStationPost body q → IsRightBody station_options body
-right_body body q h = record { right = h.right; rest = selections_taken [] (rest_of body) q.selections h.selections_are }
+right_body body q h = record { right = h.right; rest = selections_taken [] (selection_lines body) q.selections h.selections_are }
 
 body_not_turned : (body : Text) (q : StationQuery) → IsStationPost body q → IsAreaTurned body → ⊥
-body_not_turned body q h k = k.turned (subst (λ (a : Area). IsAreaInOrder a) (one_area station_options (parameters_in (front_of body)) q.area k.area h.options.bounds k.bounds) h.in_order)
+body_not_turned body q h k = k.turned (subst (λ (a : Area). IsAreaInOrder a) (one_area station_options (parameters_in (parameter_lines body)) q.area k.area h.options.bounds k.bounds) h.in_order)
 
 pub only_post : (body : Text) (answer : Result StationQuery QueryFault) → MatchResult answer (IsStationPost body) (IsStationPostFault body) → IsOnly (IsStationPost body) (IsStationPostFault body) answer
 only_post body answer right =

@@ -9,7 +9,7 @@ use Rattle.exact_time.specs.declared.moment.Moment.{Moment}
 use Rattle.channel_globs.specs.declared.nslc.Part.TheVariants.{Network, Station, Location, Channel}
 use Rattle.dataselect.specs.declared.query.DataQuery.{DataQuery}
 use Rattle.dataselect.specs.declared.query.Selection.{Selection}
-use Rattle.query_words.specs.Bodies.{Numbered, Fields, AreSix, AreFields, IsWindow, IsSelection, AreSelections, TakesLine, RefusesLine, TakesSelection, RefusesSelection, parameters_in, parameter_of, front_of, rest_of, fields_of, has_equals, limit_text}
+use Rattle.query_words.specs.Bodies.{Numbered, Fields, AreSix, AreFields, IsWindow, IsSelection, AreSelections, TakesLine, RefusesLine, TakesSelection, RefusesSelection, parameters_in, parameter_of, parameter_lines, selection_lines, selection_fields, has_equals, limit_text}
 use Rattle.query_words.specs.DataGet.{AreOptions}
 use Rattle.query_words.specs.Gets.{IsLimit}
 use Rattle.query_words.specs.DataPost.{IsDataPost, IsTurned, IsPostFault}
@@ -19,7 +19,7 @@ use Rattle.query_words.specs.Parameters.{Parameter, given, TakesParameter, Refus
 use Rattle.query_words.specs.Rows.{Text, Named, data_options}
 use Rattle.query_words.specs.declared.fault.QueryFault.{QueryFault}
 use Rattle.query_words.specs.declared.fault.QueryFault.TheVariants.{TooMany, Unknown, Repeated, OutOfScope, Value, Line, Order, NoLine, OutOfMemory}
-use Rattle.query_words.specs.declared.rows.Kind.TheVariants as kind
+use Rattle.query_words.specs.declared.rows.ValueKind.TheVariants as kind
 use Rattle.query_words.proofs.GetFound.{given_reads, default_reads, options_by, no_nodata, no_quality, no_seconds, no_flag, in_time_or_backwards}
 use Rattle.query_words.proofs.OneGet.{one_limit, not_backwards}
 use Rattle.query_words.proofs.OneDataPost.{only_post}
@@ -120,10 +120,10 @@ selection_found text =
       | inr other ↦ inr (λ s h. not_both text h.ascii other)
       | inl ascii ↦ elim (cases_Bool (has_equals text)) [
         | inl equals ↦ inr (λ s h. h.no_equals equals)
-        | inr none ↦ elim (six_found (fields_of text)) [
+        | inr none ↦ elim (six_found (selection_fields text)) [
           | inr no_six ↦ inr (λ s h. no_six h.fields h.fields_are)
           | inl six ↦ elim (fields_found six.0) [
-            | inr no_spelling ↦ inr (λ s h. no_spelling s (subst (λ (f : Fields). AreFields f s) (one_fields (fields_of text) h.fields six.0 h.fields_are six.1) h.spells))
+            | inr no_spelling ↦ inr (λ s h. no_spelling s (subst (λ (f : Fields). AreFields f s) (one_fields (selection_fields text) h.fields six.0 h.fields_are six.1) h.spells))
             | inl spells ↦ inl (spells.0, record { ascii = ascii; no_equals = both_ways (has_equals text) none; fields = six.0; fields_are = six.1; spells = spells.1 })
           ]
         ]
@@ -164,17 +164,17 @@ some_or_nothing [] = inr refl
 some_or_nothing (l ∷ ls) = inl (omega arith)
 
 -- right lines ask for a query, or none of them selects
-right_answer : (body : Text) → IsRightFront data_options body → AreTaken TakesSelection [] (rest_of body) → Answer body
+right_answer : (body : Text) → IsRightFront data_options body → AreTaken TakesSelection [] (selection_lines body) → Answer body
 right_answer body right taken =
-    elim (some_or_nothing (rest_of body)) [
+    elim (some_or_nothing (selection_lines body)) [
       | inr nothing ↦ (Err NoLine, only_post body (Err NoLine) (record { right = right; rest = taken }, λ t. t, nothing))
       | inl some ↦
-          let ss = selections_of [] (rest_of body) taken in
-          let q = options_found (parameters_in (front_of body)) (parameters_taken data_options [] (front_of body) right.taken) ss.0 in (
+          let ss = selections_of [] (selection_lines body) taken in
+          let q = options_found (parameters_in (parameter_lines body)) (parameters_taken data_options [] (parameter_lines body) right.taken) ss.0 in (
             Ok q.0,
             only_post body (Ok q.0) (record {
               right = right;
-              selections_are = subst (λ (xs : List Selection). AreSelections (rest_of body) xs) (sym q.1) ss.1;
+              selections_are = subst (λ (xs : List Selection). AreSelections (selection_lines body) xs) (sym q.1) ss.1;
               some = some;
               options = q.2;
             }),
@@ -205,9 +205,9 @@ wrong_rest options Turned body few OutOfMemory h = h.first.refused
 
 few_answer : (body : Text) → AreFew body → Answer body
 few_answer body few =
-    elim (taken_or_refused (TakesLine data_options) (RefusesLine data_options) (line_found data_options) (front_of body)) [
+    elim (taken_or_refused (TakesLine data_options) (RefusesLine data_options) (line_found data_options) (parameter_lines body)) [
       | inr first ↦ (Err first.0, only_post body (Err first.0) (wrong_front data_options IsTurned body few first.0 first.1))
-      | inl front ↦ elim (taken_or_refused TakesSelection RefusesSelection line_selects (rest_of body)) [
+      | inl front ↦ elim (taken_or_refused TakesSelection RefusesSelection line_selects (selection_lines body)) [
         | inr first ↦ (Err first.0, only_post body (Err first.0) (wrong_rest data_options IsTurned body few first.0 (record { taken = front; first = first.1 })))
         | inl rest ↦ right_answer body (record { few = few; taken = front }) rest
       ]
@@ -216,9 +216,9 @@ few_answer body few =
 -- every body is one query, or has one fault
 pub post_or_fault : (body : Text) → Answer body
 post_or_fault body =
-    elim (cases_lt 1000 (length (front_of body))) [
+    elim (cases_lt 1000 (length (parameter_lines body))) [
       | inl many ↦ (Err TooMany, only_post body (Err TooMany) (inl many))
-      | inr parameters ↦ elim (cases_lt 10_000 (length (rest_of body))) [
+      | inr parameters ↦ elim (cases_lt 10_000 (length (selection_lines body))) [
         | inl many ↦ (Err TooMany, only_post body (Err TooMany) (inr many))
         | inr selections ↦ few_answer body (record { parameters = parameters; selections = selections })
       ]

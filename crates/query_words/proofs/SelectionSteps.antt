@@ -9,8 +9,8 @@ use Rattle.query_words.specs.Extracts.{is_backwards}
 use Rattle.query_words.specs.FirstRefusals.{AreTaken}
 use Rattle.query_words.specs.Rows.{Text}
 use Rattle.query_words.specs.Selecting.{HasNone, IsWindowPair, line_fault, RefusesRest}
-use Rattle.query_words.specs.declared.words.WordFault.{WordFault}
-use Rattle.query_words.specs.declared.words.WordFault.TheVariants as fault
+use Rattle.query_words.specs.declared.words.ValueFault.{ValueFault}
+use Rattle.query_words.specs.declared.words.ValueFault.TheVariants as fault
 use Rattle.query_words.proofs.OneGet.{one_limit, not_backwards}
 use Rattle.query_words.proofs.SaidWords.{backwards}
 
@@ -41,7 +41,7 @@ no_window f start end s e turned w h =
     not_backwards w.0 w.1 b.0 b.1 first second h.in_time b.4
 
 -- fields without a window spell no selection
-pub no_spelling : (f : Fields) (why : WordFault) → HasNone (IsWindowPair f) why → HasNone (AreFields f) why
+pub no_spelling : (f : Fields) (why : ValueFault) → HasNone (IsWindowPair f) why → HasNone (AreFields f) why
 no_spelling f fault.Value h = λ s k. h (s.start, s.end) k.window
 no_spelling f fault.OutOfScope h = h
 no_spelling f fault.OutOfMemory h = tt
@@ -67,7 +67,7 @@ selections_length (l ∷ ls) [] all = absurd all
 selections_length (l ∷ ls) (s ∷ ss) all = let e = selections_length ls ss all.1 in omega (arith, e)
 
 -- the first wrong line
-pub rest_refused : (before : List Numbered) (l : Numbered) (after : List Numbered) (ss : List Selection) → AreSelections before ss → (why : WordFault) → HasNone (IsSelection l.text) why
+pub rest_refused : (before : List Numbered) (l : Numbered) (after : List Numbered) (ss : List Selection) → AreSelections before ss → (why : ValueFault) → HasNone (IsSelection l.text) why
     → RefusesRest (before ++ l ∷ after) (line_fault why l.number)
 rest_refused before l after ss all fault.Value h = record { before = before; here = l; after = after; split = refl; taken = selections_taken [] before ss all; refused = (refl, h) }
 rest_refused before l after ss all fault.OutOfScope h = absurd h

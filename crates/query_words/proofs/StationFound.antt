@@ -10,20 +10,20 @@ use Rattle.channel_globs.specs.declared.nslc.Part.{Part}
 use Rattle.channel_globs.specs.declared.nslc.Part.TheVariants.{Network, Station, Location, Channel}
 use Rattle.channel_globs.specs.PatternText.{IsPatternList}
 use Rattle.dataselect.specs.declared.query.Selection.{Selection}
-use Rattle.query_words.specs.Bodies.{parameters_in, front_of, rest_of, AreSelections, TakesLine, RefusesLine, TakesSelection, RefusesSelection}
+use Rattle.query_words.specs.Bodies.{parameters_in, parameter_lines, selection_lines, AreSelections, TakesLine, RefusesLine, TakesSelection, RefusesSelection}
 use Rattle.query_words.specs.FirstRefusals.{AreTaken}
-use Rattle.query_words.specs.Gets.{text_or, IsInTime, AreCodes, AreLimits, IsRight}
+use Rattle.query_words.specs.Gets.{text_or, IsWindowInOrder, AreCodes, AreLimits, IsRight, LacksNone}
 use Rattle.query_words.specs.Parameters.{Parameter, pairs_of, parameters_of, given, TakesParameter, RefusesParameter}
 use Rattle.query_words.specs.Places.{IsBound, IsRange, AreBounds, IsAreaInOrder, AreStationOptions}
 use Rattle.query_words.specs.Posts.{AreFew, IsRightFront}
-use Rattle.query_words.specs.Rows.{Text, kind_of, station_rows, station_options}
+use Rattle.query_words.specs.Rows.{Text, kind_of, station_names, station_options}
 use Rattle.query_words.specs.StationGet.{IsStationGet, IsStationTurned, IsStationGetFault}
 use Rattle.query_words.specs.StationPost.{IsStationPost, IsAreaTurned, IsStationPostFault}
 use Rattle.query_words.specs.Values.{CanRead, most_latitude, most_longitude}
 use Rattle.query_words.specs.declared.fault.QueryFault.{QueryFault}
 use Rattle.query_words.specs.declared.fault.QueryFault.TheVariants.{TooMany, Order, NoLine}
-use Rattle.query_words.specs.declared.rows.Kind.{Kind}
-use Rattle.query_words.specs.declared.rows.Kind.TheVariants as kind
+use Rattle.query_words.specs.declared.rows.ValueKind.{ValueKind}
+use Rattle.query_words.specs.declared.rows.ValueKind.TheVariants as kind
 use Rattle.query_words.specs.declared.station.Area.{Area}
 use Rattle.query_words.specs.declared.station.Level.TheVariants as level
 use Rattle.query_words.specs.declared.station.Limits2.{Limits2}
@@ -67,25 +67,25 @@ longitude_given None h = (None, refl)
 longitude_given (Some text) h = let is = h text refl in let n : Decimal = record { millionths = is.0; millionths_in = omega (arith, is.1.within) } in (Some n, (n, refl, is.1))
 
 -- what right parameters of a query string say
-module _ (ps : List Parameter) (taken : AreTaken (TakesParameter station_rows) [] ps) where
-  said_bounds : (area : Area) × AreBounds station_rows ps area
+module _ (ps : List Parameter) (taken : AreTaken (TakesParameter station_names) [] ps) where
+  said_bounds : (area : Area) × AreBounds station_names ps area
   said_bounds =
-      let south = latitude_given (given station_rows 11 ps) (given_reads station_rows 11 [] ps taken) in
-      let north = latitude_given (given station_rows 12 ps) (given_reads station_rows 12 [] ps taken) in
-      let west = longitude_given (given station_rows 13 ps) (given_reads station_rows 13 [] ps taken) in
-      let east = longitude_given (given station_rows 14 ps) (given_reads station_rows 14 [] ps taken) in (
+      let south = latitude_given (given station_names 11 ps) (given_reads station_names 11 [] ps taken) in
+      let north = latitude_given (given station_names 12 ps) (given_reads station_names 12 [] ps taken) in
+      let west = longitude_given (given station_names 13 ps) (given_reads station_names 13 [] ps taken) in
+      let east = longitude_given (given station_names 14 ps) (given_reads station_names 14 [] ps taken) in (
         record { latitude = record { least = south.0; most = north.0 }; longitude = record { least = west.0; most = east.0 } },
         record { south_is = south.1; north_is = north.1; west_is = west.1; east_is = east.1 },
       )
 
-  said_options : (selections : List Selection) (area : Area) → AreBounds station_rows ps area → (q : StationQuery) × (q.selections ≡ selections) × (q.area ≡ area) × AreStationOptions station_rows ps q
+  said_options : (selections : List Selection) (area : Area) → AreBounds station_names ps area → (q : StationQuery) × (q.selections ≡ selections) × (q.area ≡ area) × AreStationOptions station_names ps q
   said_options selections area bounds =
-      let nodata = default_reads kind.Nodata (codes "204") no_nodata (given station_rows 6 ps) (given_reads station_rows 6 [] ps taken) in
-      let start_before = limit_given (given station_rows 7 ps) (given_reads station_rows 7 [] ps taken) in
-      let start_after = limit_given (given station_rows 8 ps) (given_reads station_rows 8 [] ps taken) in
-      let end_before = limit_given (given station_rows 9 ps) (given_reads station_rows 9 [] ps taken) in
-      let end_after = limit_given (given station_rows 10 ps) (given_reads station_rows 10 [] ps taken) in
-      let level = default_reads kind.Level (codes "station") (level.Station, refl) (given station_rows 15 ps) (given_reads station_rows 15 [] ps taken) in (
+      let nodata = default_reads kind.Nodata (codes "204") no_nodata (given station_names 6 ps) (given_reads station_names 6 [] ps taken) in
+      let start_before = limit_given (given station_names 7 ps) (given_reads station_names 7 [] ps taken) in
+      let start_after = limit_given (given station_names 8 ps) (given_reads station_names 8 [] ps taken) in
+      let end_before = limit_given (given station_names 9 ps) (given_reads station_names 9 [] ps taken) in
+      let end_after = limit_given (given station_names 10 ps) (given_reads station_names 10 [] ps taken) in
+      let level = default_reads kind.Level (codes "station") (level.Station, refl) (given station_names 15 ps) (given_reads station_names 15 [] ps taken) in (
         record {
           selections = selections;
           start_before = start_before.0;
@@ -152,12 +152,12 @@ module _ (ps : List Parameter) (taken : AreTaken (TakesParameter station_options
         },
       )
 
-module _ (ps : List Parameter) (taken : AreTaken (TakesParameter station_rows) [] ps) where
-  list_under : (part : Part) (row : ℕ) → kind_of station_rows row ≡ kind.Patterns part → (list : List Text) × IsPatternList part (text_or (codes "*") (given station_rows row ps)) list
+module _ (ps : List Parameter) (taken : AreTaken (TakesParameter station_names) [] ps) where
+  list_under : (part : Part) (row : ℕ) → kind_of station_names row ≡ kind.Patterns part → (list : List Text) × IsPatternList part (text_or (codes "*") (given station_names row ps)) list
   list_under part row is =
-      default_reads (kind.Patterns part) (codes "*") (any_list part) (given station_rows row ps) (λ text e. subst (λ (k : Kind). CanRead k text) is (given_reads station_rows row [] ps taken text e))
+      default_reads (kind.Patterns part) (codes "*") (any_list part) (given station_names row ps) (λ text e. subst (λ (k : ValueKind). CanRead k text) is (given_reads station_names row [] ps taken text e))
 
-  selection_found : (start end : Option Moment) → (s : Selection) × (s.start ≡ start) × (s.end ≡ end) × AreCodes station_rows ps s
+  selection_found : (start end : Option Moment) → (s : Selection) × (s.start ≡ start) × (s.end ≡ end) × AreCodes station_names ps s
   selection_found start end =
       let network = list_under Network 2 refl in
       let station = list_under Station 3 refl in
@@ -169,23 +169,23 @@ module _ (ps : List Parameter) (taken : AreTaken (TakesParameter station_rows) [
         record { network_is = network.1; station_is = station.1; location_is = location.1; channel_is = channel.1 },
       )
 
-  limits_found : (start : Option Moment) × (end : Option Moment) × AreLimits station_rows ps start end
+  limits_found : (start : Option Moment) × (end : Option Moment) × AreLimits station_names ps start end
   limits_found =
-      let start = limit_given (given station_rows 0 ps) (given_reads station_rows 0 [] ps taken) in
-      let end = limit_given (given station_rows 1 ps) (given_reads station_rows 1 [] ps taken) in
+      let start = limit_given (given station_names 0 ps) (given_reads station_names 0 [] ps taken) in
+      let end = limit_given (given station_names 1 ps) (given_reads station_names 1 [] ps taken) in
       (start.0, end.0, record { start_is = start.1; end_is = end.1 })
 
 abbrev Answer : Text → Type 0
 Answer query = (answer : Result StationQuery QueryFault) × IsOnly (IsStationGet query) (IsStationGetFault query) answer
 
 -- right parameters ask for a query, or their limits are in no order
-right_answer : (query : Text) → IsRight station_rows query → Answer query
+right_answer : (query : Text) → IsRight station_names query → Answer query
 right_answer query right =
     let limits = limits_found (parameters_of query) right.taken in
     let bounds = said_bounds (parameters_of query) right.taken in
     elim (in_time_or_backwards limits.0 limits.1) [
       | inr late ↦
-          let why : ¬ (IsInTime limits.0 limits.1) = λ forwards. not_backwards limits.0 limits.1 late.0 late.1 late.2 late.3 forwards late.4 in
+          let why : ¬ (IsWindowInOrder limits.0 limits.1) = λ forwards. not_backwards limits.0 limits.1 late.0 late.1 late.2 late.3 forwards late.4 in
           (Err Order, only_get query (Err Order) (record { right = right; start = limits.0; end = limits.1; window = limits.2; area = bounds.0; bounds = bounds.1; turned = inl why }))
       | inl forwards ↦ elim (area_or_not bounds.0) [
         | inr off ↦ (Err Order, only_get query (Err Order) (record { right = right; start = limits.0; end = limits.1; window = limits.2; area = bounds.0; bounds = bounds.1; turned = inr off }))
@@ -198,8 +198,8 @@ right_answer query right =
                 selection = s.0;
                 only = q.1;
                 names = s.3;
-                window = subst (λ (m : Option Moment). AreLimits station_rows (parameters_of query) s.0.start m) (sym s.2) (subst (λ (m : Option Moment). AreLimits station_rows (parameters_of query) m limits.1) (sym s.1) limits.2);
-                in_time = subst (λ (m : Option Moment). IsInTime s.0.start m) (sym s.2) (subst (λ (m : Option Moment). IsInTime m limits.1) (sym s.1) forwards);
+                window = subst (λ (m : Option Moment). AreLimits station_names (parameters_of query) s.0.start m) (sym s.2) (subst (λ (m : Option Moment). AreLimits station_names (parameters_of query) m limits.1) (sym s.1) limits.2);
+                in_time = subst (λ (m : Option Moment). IsWindowInOrder s.0.start m) (sym s.2) (subst (λ (m : Option Moment). IsWindowInOrder m limits.1) (sym s.1) forwards);
                 options = q.3;
                 in_order = subst (λ (a : Area). IsAreaInOrder a) (sym q.2) in_order;
               }),
@@ -212,9 +212,9 @@ pub get_or_fault : (query : Text) → Answer query
 get_or_fault query =
     elim (cases_lt 1000 (length (pairs_of query))) [
       | inl many ↦ (Err TooMany, only_get query (Err TooMany) many)
-      | inr few ↦ elim (taken_or_refused (TakesParameter station_rows) (RefusesParameter station_rows) (parameter_found station_rows) (parameters_of query)) [
+      | inr few ↦ elim (taken_or_refused (TakesParameter station_names) (RefusesParameter station_names) (parameter_found station_names) (parameters_of query)) [
         | inl taken ↦ right_answer query (record { few = few; taken = taken })
-        | inr first ↦ (Err first.0, only_get query (Err first.0) (wrong_answer station_rows IsStationTurned query few first.0 first.1))
+        | inr first ↦ (Err first.0, only_get query (Err first.0) (wrong_answer station_names LacksNone IsStationTurned query few first.0 first.1))
       ]
     ]
 
@@ -222,23 +222,23 @@ abbrev PostAnswer : Text → Type 0
 PostAnswer body = (answer : Result StationQuery QueryFault) × IsOnly (IsStationPost body) (IsStationPostFault body) answer
 
 -- right lines ask for a query, or their limits are in no order, or none of them selects
-right_body_answer : (body : Text) → IsRightFront station_options body → AreTaken TakesSelection [] (rest_of body) → PostAnswer body
+right_body_answer : (body : Text) → IsRightFront station_options body → AreTaken TakesSelection [] (selection_lines body) → PostAnswer body
 right_body_answer body right taken =
-    let ps = parameters_taken station_options [] (front_of body) right.taken in
-    let bounds = posted_bounds (parameters_in (front_of body)) ps in
+    let ps = parameters_taken station_options [] (parameter_lines body) right.taken in
+    let bounds = posted_bounds (parameters_in (parameter_lines body)) ps in
     elim (area_or_not bounds.0) [
       | inr off ↦ (Err Order, only_post body (Err Order) (record { right = right; rest = taken }, record { area = bounds.0; bounds = bounds.1; turned = off }))
-      | inl in_order ↦ elim (some_or_nothing (rest_of body)) [
+      | inl in_order ↦ elim (some_or_nothing (selection_lines body)) [
         | inr nothing ↦
-            let ordered : ¬ (IsAreaTurned body) = λ k. k.turned (subst (λ (a : Area). IsAreaInOrder a) (one_area station_options (parameters_in (front_of body)) bounds.0 k.area bounds.1 k.bounds) in_order) in
+            let ordered : ¬ (IsAreaTurned body) = λ k. k.turned (subst (λ (a : Area). IsAreaInOrder a) (one_area station_options (parameters_in (parameter_lines body)) bounds.0 k.area bounds.1 k.bounds) in_order) in
             (Err NoLine, only_post body (Err NoLine) (record { right = right; rest = taken }, ordered, nothing))
         | inl some ↦
-            let ss = selections_of [] (rest_of body) taken in
-            let q = posted_options (parameters_in (front_of body)) ps ss.0 bounds.0 bounds.1 in (
+            let ss = selections_of [] (selection_lines body) taken in
+            let q = posted_options (parameters_in (parameter_lines body)) ps ss.0 bounds.0 bounds.1 in (
               Ok q.0,
               only_post body (Ok q.0) (record {
                 right = right;
-                selections_are = subst (λ (xs : List Selection). AreSelections (rest_of body) xs) (sym q.1) ss.1;
+                selections_are = subst (λ (xs : List Selection). AreSelections (selection_lines body) xs) (sym q.1) ss.1;
                 some = some;
                 options = q.3;
                 in_order = subst (λ (a : Area). IsAreaInOrder a) (sym q.2) in_order;
@@ -249,9 +249,9 @@ right_body_answer body right taken =
 
 few_answer : (body : Text) → AreFew body → PostAnswer body
 few_answer body few =
-    elim (taken_or_refused (TakesLine station_options) (RefusesLine station_options) (line_found station_options) (front_of body)) [
+    elim (taken_or_refused (TakesLine station_options) (RefusesLine station_options) (line_found station_options) (parameter_lines body)) [
       | inr first ↦ (Err first.0, only_post body (Err first.0) (wrong_front station_options IsAreaTurned body few first.0 first.1))
-      | inl front ↦ elim (taken_or_refused TakesSelection RefusesSelection line_selects (rest_of body)) [
+      | inl front ↦ elim (taken_or_refused TakesSelection RefusesSelection line_selects (selection_lines body)) [
         | inr first ↦ (Err first.0, only_post body (Err first.0) (wrong_rest station_options IsAreaTurned body few first.0 (record { taken = front; first = first.1 })))
         | inl rest ↦ right_body_answer body (record { few = few; taken = front }) rest
       ]
@@ -260,9 +260,9 @@ few_answer body few =
 -- every body is one query, or has one fault
 pub post_or_fault : (body : Text) → PostAnswer body
 post_or_fault body =
-    elim (cases_lt 1000 (length (front_of body))) [
+    elim (cases_lt 1000 (length (parameter_lines body))) [
       | inl many ↦ (Err TooMany, only_post body (Err TooMany) (inl many))
-      | inr parameters ↦ elim (cases_lt 10_000 (length (rest_of body))) [
+      | inr parameters ↦ elim (cases_lt 10_000 (length (selection_lines body))) [
         | inl many ↦ (Err TooMany, only_post body (Err TooMany) (inr many))
         | inr selections ↦ few_answer body (record { parameters = parameters; selections = selections })
       ]

@@ -5,23 +5,23 @@ use Rattle.exact_time.specs.declared.moment.Moment.{Moment}
 use Rattle.channel_globs.specs.declared.nslc.Part.TheVariants.{Network, Station, Location, Channel}
 use Rattle.dataselect.specs.declared.query.Selection.{Selection}
 use Rattle.query_words.specs.Extracts.{limit_word, number_word, level_word, AreAreaWords, AreStationWords, IsStationMade, AreLists, is_backwards}
-use Rattle.query_words.specs.Gets.{text_or, said, IsLimit, IsInTime, AreCodes, AreLimits}
+use Rattle.query_words.specs.Gets.{text_or, said, IsLimit, IsWindowInOrder, AreCodes, AreLimits}
 use Rattle.query_words.specs.Parameters.{Parameter, pairs_of, parameters_of}
 use Rattle.query_words.specs.Places.{IsBound, AreBounds, IsAreaInOrder, AreStationOptions}
-use Rattle.query_words.specs.Rows.{Text, station_rows, station_options}
+use Rattle.query_words.specs.Rows.{Text, station_names, station_options}
 use Rattle.query_words.specs.StationGet.{IsStationGet, IsStationTurned}
 use Rattle.query_words.specs.Values.{level_of, most_latitude, most_longitude}
-use Rattle.query_words.specs.Words.{IsWord, IsHeld, AreHeld, HasRead}
+use Rattle.query_words.specs.Words.{IsParameterValue, IsHeld, AreHeld, HasReadParameters}
 use Rattle.query_words.specs.declared.places.StationOptions.{StationOptions}
-use Rattle.query_words.specs.declared.rows.Kind.TheVariants as kind
+use Rattle.query_words.specs.declared.rows.ValueKind.TheVariants as kind
 use Rattle.query_words.specs.declared.station.Area.{Area}
 use Rattle.query_words.specs.declared.station.StationQuery.{StationQuery}
-use Rattle.query_words.specs.declared.words.Word.{Word}
-use Rattle.query_words.specs.declared.words.Word.TheVariants as word
+use Rattle.query_words.specs.declared.words.ParameterValue.{ParameterValue}
+use Rattle.query_words.specs.declared.words.ParameterValue.TheVariants as word
 use Rattle.query_words.proofs.OneGet.{not_backwards}
 use Rattle.query_words.proofs.SaidWords.{limit_said, list_said, nodata_said, in_time, backwards}
 
-latitude_text : (text : Text) (w : Word) → IsWord kind.Latitude text w → IsBound most_latitude (Some text) (number_word (Some w))
+latitude_text : (text : Text) (w : ParameterValue) → IsParameterValue kind.Latitude text w → IsBound most_latitude (Some text) (number_word (Some w))
 latitude_text text (word.Number n) h = (n, refl, h)
 latitude_text text (word.Patterns list) h = let e = h.1 in cc
 latitude_text text (word.Time moment) h = let e = h.0 in cc
@@ -32,11 +32,11 @@ latitude_text text (word.Flag flag) h = let e = h.0 in cc
 latitude_text text (word.Level level) h = let e = h.0 in cc
 latitude_text text word.Nothing h = absurd h
 
-latitude_said : (given : Option Text) (held : Option Word) → IsHeld kind.Latitude given held → IsBound most_latitude given (number_word held)
+latitude_said : (given : Option Text) (held : Option ParameterValue) → IsHeld kind.Latitude given held → IsBound most_latitude given (number_word held)
 latitude_said None held h = ap number_word h
-latitude_said (Some text) held h = subst (λ (o : Option Word). IsBound most_latitude (Some text) (number_word o)) (sym h.1) (latitude_text text h.0 h.2)
+latitude_said (Some text) held h = subst (λ (o : Option ParameterValue). IsBound most_latitude (Some text) (number_word o)) (sym h.1) (latitude_text text h.0 h.2)
 
-longitude_text : (text : Text) (w : Word) → IsWord kind.Longitude text w → IsBound most_longitude (Some text) (number_word (Some w))
+longitude_text : (text : Text) (w : ParameterValue) → IsParameterValue kind.Longitude text w → IsBound most_longitude (Some text) (number_word (Some w))
 longitude_text text (word.Number n) h = (n, refl, h)
 longitude_text text (word.Patterns list) h = let e = h.1 in cc
 longitude_text text (word.Time moment) h = let e = h.0 in cc
@@ -47,11 +47,11 @@ longitude_text text (word.Flag flag) h = let e = h.0 in cc
 longitude_text text (word.Level level) h = let e = h.0 in cc
 longitude_text text word.Nothing h = absurd h
 
-longitude_said : (given : Option Text) (held : Option Word) → IsHeld kind.Longitude given held → IsBound most_longitude given (number_word held)
+longitude_said : (given : Option Text) (held : Option ParameterValue) → IsHeld kind.Longitude given held → IsBound most_longitude given (number_word held)
 longitude_said None held h = ap number_word h
-longitude_said (Some text) held h = subst (λ (o : Option Word). IsBound most_longitude (Some text) (number_word o)) (sym h.1) (longitude_text text h.0 h.2)
+longitude_said (Some text) held h = subst (λ (o : Option ParameterValue). IsBound most_longitude (Some text) (number_word o)) (sym h.1) (longitude_text text h.0 h.2)
 
-level_text : (text : Text) (w : Word) → IsWord kind.Level text w → level_of text ≡ Some (level_word (Some w))
+level_text : (text : Text) (w : ParameterValue) → IsParameterValue kind.Level text w → level_of text ≡ Some (level_word (Some w))
 level_text text (word.Level level) h = h.1
 level_text text (word.Patterns list) h = let e = h.1 in cc
 level_text text (word.Time moment) h = let e = h.0 in cc
@@ -62,16 +62,16 @@ level_text text (word.Flag flag) h = let e = h.0 in cc
 level_text text (word.Number n) h = absurd h
 level_text text word.Nothing h = absurd h
 
-level_said : (given : Option Text) (held : Option Word) → IsHeld kind.Level given held → level_of (text_or (codes "station") given) ≡ Some (level_word held)
-level_said None held h = ap (λ (o : Option Word). Some (level_word o)) (sym h)
-level_said (Some text) held h = level_text text h.0 h.2 ∙ ap (λ (o : Option Word). Some (level_word o)) (sym h.1)
+level_said : (given : Option Text) (held : Option ParameterValue) → IsHeld kind.Level given held → level_of (text_or (codes "station") given) ≡ Some (level_word held)
+level_said None held h = ap (λ (o : Option ParameterValue). Some (level_word o)) (sym h)
+level_said (Some text) held h = level_text text h.0 h.2 ∙ ap (λ (o : Option ParameterValue). Some (level_word o)) (sym h.1)
 
 -- of a query string
-module _ (ps : List Parameter) (words : List (Option Word)) (held : AreHeld station_rows ps words) where
-  pub limits_said : AreLimits station_rows ps (limit_word (get_or words 0 None)) (limit_word (get_or words 1 None))
+module _ (ps : List Parameter) (words : List (Option ParameterValue)) (held : AreHeld station_names ps words) where
+  pub limits_said : AreLimits station_names ps (limit_word (get_or words 0 None)) (limit_word (get_or words 1 None))
   limits_said = record { start_is = limit_said _ _ (held.each 0 (omega arith)); end_is = limit_said _ _ (held.each 1 (omega arith)) }
 
-  pub codes_said : (s : Selection) → AreLists words 2 s → AreCodes station_rows ps s
+  pub codes_said : (s : Selection) → AreLists words 2 s → AreCodes station_names ps s
   codes_said s h = record {
     network_is = list_said Network _ _ _ (held.each 2 (omega arith)) h.network_is;
     station_is = list_said Station _ _ _ (held.each 3 (omega arith)) h.station_is;
@@ -79,27 +79,27 @@ module _ (ps : List Parameter) (words : List (Option Word)) (held : AreHeld stat
     channel_is = list_said Channel _ _ _ (held.each 5 (omega arith)) h.channel_is;
   }
 
-  pub bounds_said : (area : Area) → AreAreaWords words (6 + 5) area → AreBounds station_rows ps area
+  pub bounds_said : (area : Area) → AreAreaWords words (6 + 5) area → AreBounds station_names ps area
   bounds_said area h = record {
-    south_is = subst (λ (d : Option Decimal). IsBound most_latitude (said station_rows (codes "minlatitude") ps) d) (sym h.south_is) (latitude_said _ _ (held.each 11 (omega arith)));
-    north_is = subst (λ (d : Option Decimal). IsBound most_latitude (said station_rows (codes "maxlatitude") ps) d) (sym h.north_is) (latitude_said _ _ (held.each 12 (omega arith)));
-    west_is = subst (λ (d : Option Decimal). IsBound most_longitude (said station_rows (codes "minlongitude") ps) d) (sym h.west_is) (longitude_said _ _ (held.each 13 (omega arith)));
-    east_is = subst (λ (d : Option Decimal). IsBound most_longitude (said station_rows (codes "maxlongitude") ps) d) (sym h.east_is) (longitude_said _ _ (held.each 14 (omega arith)));
+    south_is = subst (λ (d : Option Decimal). IsBound most_latitude (said station_names (codes "minlatitude") ps) d) (sym h.south_is) (latitude_said _ _ (held.each 11 (omega arith)));
+    north_is = subst (λ (d : Option Decimal). IsBound most_latitude (said station_names (codes "maxlatitude") ps) d) (sym h.north_is) (latitude_said _ _ (held.each 12 (omega arith)));
+    west_is = subst (λ (d : Option Decimal). IsBound most_longitude (said station_names (codes "minlongitude") ps) d) (sym h.west_is) (longitude_said _ _ (held.each 13 (omega arith)));
+    east_is = subst (λ (d : Option Decimal). IsBound most_longitude (said station_names (codes "maxlongitude") ps) d) (sym h.east_is) (longitude_said _ _ (held.each 14 (omega arith)));
   }
 
-  pub options_said : (selections : List Selection) (o : StationOptions) (q : StationQuery) → AreStationWords words 6 o → IsStationMade selections o q → AreStationOptions station_rows ps q
+  pub options_said : (selections : List Selection) (o : StationOptions) (q : StationQuery) → AreStationWords words 6 o → IsStationMade selections o q → AreStationOptions station_names ps q
   options_said selections o q h k = record {
     nodata_is = nodata_said _ _ (held.each 6 (omega arith)) ∙ ap Some (sym h.nodata_is ∙ sym k.nodata_is);
-    start_before_is = subst (λ (m : Option Moment). IsLimit (said station_rows (codes "startbefore") ps) m) (sym (k.start_before_is ∙ h.start_before_is)) (limit_said _ _ (held.each 7 (omega arith)));
-    start_after_is = subst (λ (m : Option Moment). IsLimit (said station_rows (codes "startafter") ps) m) (sym (k.start_after_is ∙ h.start_after_is)) (limit_said _ _ (held.each 8 (omega arith)));
-    end_before_is = subst (λ (m : Option Moment). IsLimit (said station_rows (codes "endbefore") ps) m) (sym (k.end_before_is ∙ h.end_before_is)) (limit_said _ _ (held.each 9 (omega arith)));
-    end_after_is = subst (λ (m : Option Moment). IsLimit (said station_rows (codes "endafter") ps) m) (sym (k.end_after_is ∙ h.end_after_is)) (limit_said _ _ (held.each 10 (omega arith)));
-    bounds = subst (λ (a : Area). AreBounds station_rows ps a) (sym k.area_is) (bounds_said o.area h.area_is);
+    start_before_is = subst (λ (m : Option Moment). IsLimit (said station_names (codes "startbefore") ps) m) (sym (k.start_before_is ∙ h.start_before_is)) (limit_said _ _ (held.each 7 (omega arith)));
+    start_after_is = subst (λ (m : Option Moment). IsLimit (said station_names (codes "startafter") ps) m) (sym (k.start_after_is ∙ h.start_after_is)) (limit_said _ _ (held.each 8 (omega arith)));
+    end_before_is = subst (λ (m : Option Moment). IsLimit (said station_names (codes "endbefore") ps) m) (sym (k.end_before_is ∙ h.end_before_is)) (limit_said _ _ (held.each 9 (omega arith)));
+    end_after_is = subst (λ (m : Option Moment). IsLimit (said station_names (codes "endafter") ps) m) (sym (k.end_after_is ∙ h.end_after_is)) (limit_said _ _ (held.each 10 (omega arith)));
+    bounds = subst (λ (a : Area). AreBounds station_names ps a) (sym k.area_is) (bounds_said o.area h.area_is);
     level_is = level_said _ _ (held.each 15 (omega arith)) ∙ ap Some (sym h.level_is ∙ sym k.level_is);
   }
 
 -- of a body
-module _ (ps : List Parameter) (words : List (Option Word)) (held : AreHeld station_options ps words) where
+module _ (ps : List Parameter) (words : List (Option ParameterValue)) (held : AreHeld station_options ps words) where
   pub bounds_posted : (area : Area) → AreAreaWords words (0 + 5) area → AreBounds station_options ps area
   bounds_posted area h = record {
     south_is = subst (λ (d : Option Decimal). IsBound most_latitude (said station_options (codes "minlatitude") ps) d) (sym h.south_is) (latitude_said _ _ (held.each 5 (omega arith)));
@@ -119,13 +119,13 @@ module _ (ps : List Parameter) (words : List (Option Word)) (held : AreHeld stat
     level_is = level_said _ _ (held.each 9 (omega arith)) ∙ ap Some (sym h.level_is ∙ sym k.level_is);
   }
 
-module _ (query : Text) (words : List (Option Word)) (few : length (pairs_of query) ≤ 1000) (read : HasRead station_rows (parameters_of query) (parameters_of query) [] words)
+module _ (query : Text) (words : List (Option ParameterValue)) (few : length (pairs_of query) ≤ 1000) (read : HasReadParameters station_names (parameters_of query) (parameters_of query) [] words)
     (start end : Option Moment) (start_is : start ≡ limit_word (get_or words 0 None)) (end_is : end ≡ limit_word (get_or words 1 None))
     (o : StationOptions) (options : AreStationWords words 6 o) where
-  window : AreLimits station_rows (parameters_of query) start end
+  window : AreLimits station_names (parameters_of query) start end
   window =
       let told = limits_said (parameters_of query) words read.held in
-      record { start_is = subst (λ (m : Option Moment). IsLimit (said station_rows (codes "starttime") (parameters_of query)) m) (sym start_is) told.start_is; end_is = subst (λ (m : Option Moment). IsLimit (said station_rows (codes "endtime") (parameters_of query)) m) (sym end_is) told.end_is }
+      record { start_is = subst (λ (m : Option Moment). IsLimit (said station_names (codes "starttime") (parameters_of query)) m) (sym start_is) told.start_is; end_is = subst (λ (m : Option Moment). IsLimit (said station_names (codes "endtime") (parameters_of query)) m) (sym end_is) told.end_is }
 
   -- the parts that the words give make the query
   pub asked : is_backwards start end ≡ false → IsAreaInOrder o.area → (s : Selection) (q : StationQuery) → AreLists words 2 s → s.start ≡ start → s.end ≡ end → IsStationMade (s ∷ []) o q → IsStationGet query q
@@ -134,13 +134,13 @@ module _ (query : Text) (words : List (Option Word)) (few : length (pairs_of que
     selection = s;
     only = made.selections_are;
     names = codes_said (parameters_of query) words read.held s lists;
-    window = record { start_is = subst (λ (m : Option Moment). IsLimit (said station_rows (codes "starttime") (parameters_of query)) m) (sym start_at) window.start_is; end_is = subst (λ (m : Option Moment). IsLimit (said station_rows (codes "endtime") (parameters_of query)) m) (sym end_at) window.end_is };
+    window = record { start_is = subst (λ (m : Option Moment). IsLimit (said station_names (codes "starttime") (parameters_of query)) m) (sym start_at) window.start_is; end_is = subst (λ (m : Option Moment). IsLimit (said station_names (codes "endtime") (parameters_of query)) m) (sym end_at) window.end_is };
     in_time = in_time s.start s.end (ap (λ (m : Option Moment). is_backwards m s.end) start_at ∙ ap (λ (m : Option Moment). is_backwards start m) end_at ∙ forwards);
     options = options_said (parameters_of query) words read.held (s ∷ []) o q options made;
     in_order = subst (λ (a : Area). IsAreaInOrder a) (sym made.area_is) in_order;
   }
 
-  pub turned : (¬ (IsInTime start end)) ⊎ (¬ (IsAreaInOrder o.area)) → IsStationTurned query
+  pub turned : (¬ (IsWindowInOrder start end)) ⊎ (¬ (IsAreaInOrder o.area)) → IsStationTurned query
   turned why = record {
     right = record { few = few; taken = read.taken };
     start = start;
@@ -152,7 +152,7 @@ module _ (query : Text) (words : List (Option Word)) (few : length (pairs_of que
   }
 
   -- a start after the end is in no order
-  pub late : is_backwards start end ≡ true → ¬ (IsInTime start end)
+  pub late : is_backwards start end ≡ true → ¬ (IsWindowInOrder start end)
   late h forwards =
       let b = backwards start end h in
       not_backwards start end b.0 b.1 b.2 b.3 forwards b.4

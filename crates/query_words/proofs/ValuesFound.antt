@@ -16,12 +16,12 @@ use Rattle.channel_globs.specs.declared.nslc.Part.{Part}
 use Rattle.channel_globs.specs.declared.patterns.GlobFault.{GlobFault}
 use Rattle.channel_globs.proofs.OneList.{list_or_fault}
 use Rattle.query_words.specs.Parameters.{Parameter, given, TakesParameter, RefusesParameter}
-use Rattle.query_words.specs.Rows.{Text, Named, row_of, kind_of}
+use Rattle.query_words.specs.Rows.{Text, Named, place_of_name, kind_of}
 use Rattle.query_words.specs.Values.{nodata_of, quality_of, flag_of, level_of, is_garbled, IsMinimum, IsDegrees, most_latitude, most_longitude, CanRead, Reads, IsLeftOut}
 use Rattle.query_words.specs.declared.fault.QueryFault.{QueryFault}
 use Rattle.query_words.specs.declared.fault.QueryFault.TheVariants.{Unknown, Repeated, OutOfScope, Value}
-use Rattle.query_words.specs.declared.rows.Kind.{Kind}
-use Rattle.query_words.specs.declared.rows.Kind.TheVariants as kind
+use Rattle.query_words.specs.declared.rows.ValueKind.{ValueKind}
+use Rattle.query_words.specs.declared.rows.ValueKind.TheVariants as kind
 
 -- something has the property, or nothing has
 abbrev pub Found : {V : Type 0} → (V → Type 0) → Type 0
@@ -102,7 +102,7 @@ degrees_found : (most : ℕ) (text : Text) → Found (λ (n : ℤ). IsDegrees mo
 degrees_found most text = let a = number_or_fault text in degrees_by most text a.0 a.1
 
 -- a text is a value of a kind, or it isn't
-can_or_cannot : (k : Kind) (text : Text) → CanRead k text ⊎ (¬ (CanRead k text))
+can_or_cannot : (k : ValueKind) (text : Text) → CanRead k text ⊎ (¬ (CanRead k text))
 can_or_cannot kind.Time text = pair_found (λ (micros : ℤ). IsMoment text micros) (moment_found text)
 can_or_cannot (kind.Patterns part) text = pair_found (λ (list : List Text). IsPatternList part text list) (list_found part text)
 can_or_cannot kind.Nodata text = pair_found (λ nodata. nodata_of text ≡ Some nodata) (option_found (nodata_of text))
@@ -118,7 +118,7 @@ can_or_cannot kind.Always text = same_flag (flag_of text) true
 can_or_cannot kind.Never text = same_flag (flag_of text) false
 can_or_cannot kind.LeftOut text = inr (λ h. h)
 
-reads_or_not : (k : Kind) (text : Text) → Reads k text ⊎ (¬ (Reads k text))
+reads_or_not : (k : ValueKind) (text : Text) → Reads k text ⊎ (¬ (Reads k text))
 reads_or_not k text =
     elim (cases_Bool (is_garbled text)) [
       | inl garbled ↦ inr (λ h. both_ways (is_garbled text) h.plain garbled)
@@ -126,7 +126,7 @@ reads_or_not k text =
     ]
 
 -- a value is left out, or it isn't
-left_out_or_not : (k : Kind) (text : Text) → IsLeftOut k text ⊎ (¬ (IsLeftOut k text))
+left_out_or_not : (k : ValueKind) (text : Text) → IsLeftOut k text ⊎ (¬ (IsLeftOut k text))
 left_out_or_not kind.Level text = same_text text (codes "response")
 left_out_or_not kind.TextForm text = same_text text (codes "xml")
 left_out_or_not kind.Always text = same_flag (flag_of text) false
@@ -145,7 +145,7 @@ left_out_or_not kind.Longitude text = inr (λ h. h)
 -- a parameter is taken behind those before it, or refused
 pub parameter_found : (rows : List Named) (before : List Parameter) (p : Parameter) → TakesParameter rows before p ⊎ ((fault : QueryFault) × RefusesParameter rows before p fault)
 parameter_found rows before p =
-    elim (some_or_none (row_of rows p.name)) [
+    elim (some_or_none (place_of_name rows p.name)) [
       | inr unknown ↦ inr (Unknown p.number, (refl, unknown))
       | inl row ↦ elim (some_or_none (given rows row.0 before)) [
         | inl earlier ↦ inr (Repeated p.number, (refl, record { row = row.0; names = row.1; earlier = earlier.0; taken = earlier.1 }))

@@ -8,7 +8,7 @@ use Rattle.exact_time.specs.declared.moment.Moment.{Moment}
 use Rattle.channel_globs.specs.PatternText.{without_spaces, space, IsPatternList}
 use Rattle.channel_globs.specs.declared.nslc.Part.TheVariants.{Network, Station, Location, Channel}
 use Rattle.dataselect.specs.declared.query.Selection.{Selection}
-use Rattle.query_words.specs.Gets.{IsLimit, IsInTime}
+use Rattle.query_words.specs.Gets.{IsLimit, IsWindowInOrder}
 use Rattle.query_words.specs.Parameters.{Parameter, parameter, TakesParameter, RefusesParameter}
 use Rattle.query_words.specs.Rows.{Text, Named}
 use Rattle.query_words.specs.declared.fault.QueryFault.{QueryFault}
@@ -26,8 +26,8 @@ abbrev pub is_gap : ℕ → Bool
 is_gap byte = byte == space || byte == tab
 
 -- there is nothing but spaces and tabs
-abbrev pub is_blank : Text → Bool
-is_blank text = list_all is_gap text
+abbrev pub is_blank_line : Text → Bool
+is_blank_line text = list_all is_gap text
 
 abbrev pub has_equals : Text → Bool
 has_equals text = list_any (λ byte. byte == equals_sign) text
@@ -41,14 +41,14 @@ abbrev pub numbered : ℕ → Text → Numbered
 numbered number text = record { number = number; text = text }
 
 -- a line, without where it lies in memory
-abbrev pub seen : BodyLine → Numbered
-seen line = numbered line.number line.text.now
+abbrev pub numbered_line : BodyLine → Numbered
+numbered_line line = numbered line.number line.text.now
 
 -- the lines that aren't blank, with numbers from this one on
 abbrev pub lines_from : ℕ → List Text → List Numbered
 lines_from number [] = []
 lines_from number (text ∷ texts) =
-    if is_blank text then lines_from (number + 1) texts
+    if is_blank_line text then lines_from (number + 1) texts
     else numbered number text ∷ lines_from (number + 1) texts
 
 -- the lines of a body that aren't blank, numbered from 1
@@ -60,12 +60,12 @@ abbrev pub front_count : List Numbered → ℕ
 front_count ls = prefix_len (λ l. has_equals l.text) ls
 
 -- the parameter lines: those with `=` before the first line without
-abbrev pub front_of : Text → List Numbered
-front_of body = take (front_count (lines_of body)) (lines_of body)
+abbrev pub parameter_lines : Text → List Numbered
+parameter_lines body = take (front_count (lines_of body)) (lines_of body)
 
 -- the first selection line, and all behind it
-abbrev pub rest_of : Text → List Numbered
-rest_of body = drop (front_count (lines_of body)) (lines_of body)
+abbrev pub selection_lines : Text → List Numbered
+selection_lines body = drop (front_count (lines_of body)) (lines_of body)
 
 -- the parameter of a line: the texts on the two sides of its first `=`, without the spaces round them
 abbrev pub parameter_of : Numbered → Parameter
@@ -90,8 +90,8 @@ RefusesLine rows before l (Value number) = IsAscii l.text × RefusesParameter ro
 RefusesLine rows before l _ = ⊥
 
 -- the fields of a line, between runs of spaces and tabs
-abbrev pub fields_of : Text → List Text
-fields_of text = filter is_nonempty (slice_split is_gap text)
+abbrev pub selection_fields : Text → List Text
+selection_fields text = filter is_nonempty (slice_split is_gap text)
 
 -- a limit of a selection line; `*` is none
 abbrev pub limit_text : Text → Option Text
@@ -117,7 +117,7 @@ pub record AreCodeFields (f : Fields) (s : Selection) : Type 0 where
 pub record IsWindow (f : Fields) (start end : Option Moment) : Type 0 where
   pub start_is : IsLimit (limit_text f.start) start
   pub end_is : IsLimit (limit_text f.end) end
-  pub in_time : IsInTime start end
+  pub in_time : IsWindowInOrder start end
 
 -- the fields spell this selection
 pub record AreFields (f : Fields) (s : Selection) : Type 0 where
@@ -133,7 +133,7 @@ pub record IsSelection (text : Text) (s : Selection) : Type 0 where
   pub ascii : IsAscii text
   pub no_equals : ¬ (IsTrue (has_equals text))
   pub fields : Fields
-  pub fields_are : AreSix (fields_of text) fields
+  pub fields_are : AreSix (selection_fields text) fields
   pub spells : AreFields fields s
 
 -- a selection line is right, whatever those before it are

@@ -4,8 +4,8 @@ use Rattle.std.specs.Prelude.{◌≡◌, ◌<ℤ◌, List, [], ◌∷◌, Some, 
 use Rattle.exact_time.specs.declared.moment.Moment.{Moment}
 use Rattle.dataselect.specs.declared.query.Selection.{Selection}
 use Rattle.dataselect.specs.declared.query.DataQuery.{DataQuery}
-use Rattle.query_words.specs.Gets.{said_or, IsInTime, AreCodes, AreLimits, IsRight, IsFaultBy, RefusesBy}
-use Rattle.query_words.specs.Rows.{Text, Named, data_rows}
+use Rattle.query_words.specs.Gets.{said_or, IsWindowInOrder, AreCodes, AreLimits, IsRight, LacksNone, IsFaultBy, RefusesBy}
+use Rattle.query_words.specs.Rows.{Text, Named, data_names}
 use Rattle.query_words.specs.Values.{quality_of, nodata_of, flag_of, IsMinimum}
 use Rattle.query_words.specs.Parameters.{Parameter, parameters_of}
 use Rattle.query_words.specs.declared.fault.QueryFault.{QueryFault}
@@ -19,26 +19,26 @@ pub record AreOptions (rows : List Named) (ps : List Parameter) (q : DataQuery) 
 
 -- the query string asks for this: one selection and the options
 pub record IsDataGet (query : Text) (q : DataQuery) : Type 0 where
-  pub right : IsRight data_rows query
+  pub right : IsRight data_names query
   pub selection : Selection
   pub only : q.selections ≡ selection ∷ []
-  pub names : AreCodes data_rows (parameters_of query) selection
-  pub window : AreLimits data_rows (parameters_of query) selection.start selection.end
-  pub in_time : IsInTime selection.start selection.end
-  pub options : AreOptions data_rows (parameters_of query) q
+  pub names : AreCodes data_names (parameters_of query) selection
+  pub window : AreLimits data_names (parameters_of query) selection.start selection.end
+  pub in_time : IsWindowInOrder selection.start selection.end
+  pub options : AreOptions data_names (parameters_of query) q
 
 -- each parameter is right, and the start is after the end
 pub record IsBackwards (query : Text) : Type 0 where
-  pub right : IsRight data_rows query
+  pub right : IsRight data_names query
   pub from : Moment
   pub to : Moment
-  pub window : AreLimits data_rows (parameters_of query) (Some from) (Some to)
+  pub window : AreLimits data_names (parameters_of query) (Some from) (Some to)
   pub order : to.micros <ℤ from.micros
 
 -- the fault of a query string
 abbrev pub IsGetFault : Text → QueryFault → Type 0
-IsGetFault query fault = IsFaultBy data_rows IsBackwards query fault
+IsGetFault query fault = IsFaultBy data_names LacksNone IsBackwards query fault
 
 -- why a query string gave no query; want of memory is free
 abbrev pub RefusesGet : Text → QueryFault → Type 0
-RefusesGet query fault = RefusesBy data_rows IsBackwards query fault
+RefusesGet query fault = RefusesBy data_names LacksNone IsBackwards query fault

@@ -2,7 +2,7 @@
 -- POST).
 use Rattle.std.specs.Prelude.{◌<◌, length}
 use Rattle.dataselect.specs.declared.query.DataQuery.{DataQuery}
-use Rattle.query_words.specs.Bodies.{front_of, rest_of, parameters_in, AreSelections}
+use Rattle.query_words.specs.Bodies.{parameter_lines, selection_lines, parameters_in, AreSelections}
 use Rattle.query_words.specs.DataGet.{AreOptions}
 use Rattle.query_words.specs.Posts.{IsRightFront, IsBodyFaultBy, RefusesBodyBy}
 use Rattle.query_words.specs.Rows.{Text, data_options}
@@ -11,9 +11,9 @@ use Rattle.query_words.specs.declared.fault.QueryFault.{QueryFault}
 -- the body asks for this: its selections and options
 pub record IsDataPost (body : Text) (q : DataQuery) : Type 0 where
   pub right : IsRightFront data_options body
-  pub selections_are : AreSelections (rest_of body) q.selections
-  pub some : 0 < length (rest_of body)
-  pub options : AreOptions data_options (parameters_in (front_of body)) q
+  pub selections_are : AreSelections (selection_lines body) q.selections
+  pub some : 0 < length (selection_lines body)
+  pub options : AreOptions data_options (parameters_in (parameter_lines body)) q
 
 -- no body's limits are in no order: a window that is makes its selection line wrong
 abbrev pub IsTurned : Text → Type 0

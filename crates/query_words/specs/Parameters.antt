@@ -2,17 +2,17 @@
 use Rattle.std.specs.Prelude.{◌≡◌, ℕ, ◌+◌, ◌==◌, Bool, false, List, [], ◌∷◌, map, Option, Some, None, if◌then◌else◌}
 use Rattle.std.specs.Str.Lossy.{utf8_lossy}
 use Rattle.form_urlencoded.specs.Form.{raw_pairs, decode}
-use Rattle.query_words.specs.Rows.{Text, Named, row_of, kind_of}
+use Rattle.query_words.specs.Rows.{Text, Named, place_of_name, kind_of}
 use Rattle.query_words.specs.Values.{Reads, IsLeftOut}
 use Rattle.query_words.specs.declared.fault.QueryFault.{QueryFault}
 use Rattle.query_words.specs.declared.fault.QueryFault.TheVariants.{Unknown, Repeated, OutOfScope, Value}
 
 -- the text of a name or a value: decoded, with U+FFFD for what isn't UTF-8
-abbrev pub text_of : Text → Text
-text_of bytes = utf8_lossy (decode bytes)
+abbrev pub decoded_text : Text → Text
+decoded_text bytes = utf8_lossy (decode bytes)
 
 abbrev pub decoded : Text × Text → Text × Text
-decoded pair = (text_of pair.0, text_of pair.1)
+decoded pair = (decoded_text pair.0, decoded_text pair.1)
 
 -- the names and the values of a query string, in order
 abbrev pub pairs_of : Text → List (Text × Text)
@@ -36,18 +36,18 @@ numbered_from number (pair ∷ pairs) = parameter number pair ∷ numbered_from 
 abbrev pub parameters_of : Text → List Parameter
 parameters_of query = numbered_from 1 (pairs_of query)
 
-abbrev pub is_row : ℕ → Option ℕ → Bool
-is_row row None = false
-is_row row (Some found) = found == row
+abbrev pub is_name : ℕ → Option ℕ → Bool
+is_name row None = false
+is_name row (Some found) = found == row
 
 -- the value of the first parameter that names the row
 abbrev pub given : List Named → ℕ → List Parameter → Option Text
 given rows row [] = None
-given rows row (p ∷ ps) = if is_row row (row_of rows p.name) then Some p.value else given rows row ps
+given rows row (p ∷ ps) = if is_name row (place_of_name rows p.name) then Some p.value else given rows row ps
 
 -- behind the parameters before it, a parameter names a row that none of them does
 pub record IsNew (rows : List Named) (before : List Parameter) (p : Parameter) (row : ℕ) : Type 0 where
-  pub names : row_of rows p.name ≡ Some row
+  pub names : place_of_name rows p.name ≡ Some row
   pub free : given rows row before ≡ None
 
 -- a parameter is right: its name is new, and its value is one of that name
@@ -59,7 +59,7 @@ pub record TakesParameter (rows : List Named) (before : List Parameter) (p : Par
 -- an earlier parameter has the name
 pub record IsRepeated (rows : List Named) (before : List Parameter) (p : Parameter) : Type 0 where
   pub row : ℕ
-  pub names : row_of rows p.name ≡ Some row
+  pub names : place_of_name rows p.name ≡ Some row
   pub earlier : Text
   pub taken : given rows row before ≡ Some earlier
 
@@ -78,7 +78,7 @@ pub record IsBadValue (rows : List Named) (before : List Parameter) (p : Paramet
 
 -- why a parameter is wrong behind those before it, tested in this order
 abbrev pub RefusesParameter : List Named → List Parameter → Parameter → QueryFault → Type 0
-RefusesParameter rows before p (Unknown number) = (number ≡ p.number) × (row_of rows p.name ≡ None)
+RefusesParameter rows before p (Unknown number) = (number ≡ p.number) × (place_of_name rows p.name ≡ None)
 RefusesParameter rows before p (Repeated number) = (number ≡ p.number) × IsRepeated rows before p
 RefusesParameter rows before p (OutOfScope number) = (number ≡ p.number) × IsOutOfScope rows before p
 RefusesParameter rows before p (Value number) = (number ≡ p.number) × IsBadValue rows before p

@@ -4,9 +4,9 @@ use Rattle.std.specs.Prelude.{ℕ, List, [], ◌∷◌, Bool, ◌||◌, Option, 
 use Rattle.std.specs.Char.{to_ascii_lowercase}
 use Rattle.std.specs.Str.{bytes_eq}
 use Rattle.channel_globs.specs.declared.nslc.Part.TheVariants.{Network, Station, Location, Channel}
-use Rattle.query_words.specs.declared.rows.Row.{Row}
-use Rattle.query_words.specs.declared.rows.Kind.{Kind}
-use Rattle.query_words.specs.declared.rows.Kind.TheVariants.{Time, Patterns, Nodata, Quality, Seconds, Flag, Format, Latitude, Longitude, Level, TextForm, Always, Never, LeftOut}
+use Rattle.query_words.specs.declared.rows.ParameterName.{ParameterName}
+use Rattle.query_words.specs.declared.rows.ValueKind.{ValueKind}
+use Rattle.query_words.specs.declared.rows.ValueKind.TheVariants.{Time, Patterns, Nodata, Quality, Seconds, Flag, Format, Latitude, Longitude, Level, TextForm, Always, Never, LeftOut}
 
 abbrev pub Text : Type 0
 Text = List ℕ
@@ -15,18 +15,18 @@ Text = List ℕ
 pub record Named : Type 0 where
   pub name : Text
   pub alias : Text
-  pub kind : Kind
+  pub kind : ValueKind
 
-abbrev pub named : Row → Named
+abbrev pub named : ParameterName → Named
 named row = record { name = row.name.now; alias = row.alias.now; kind = row.kind }
 
-abbrev pub rows_of : List Row → List Named
-rows_of table = map named table
+abbrev pub names_of : List ParameterName → List Named
+names_of table = map named table
 
-abbrev pub with_alias : Text → Text → Kind → Named
+abbrev pub with_alias : Text → Text → ValueKind → Named
 with_alias name alias kind = record { name = name; alias = alias; kind = kind }
 
-abbrev pub alone : Text → Kind → Named
+abbrev pub alone : Text → ValueKind → Named
 alone name kind = with_alias name name kind
 
 -- the options of dataselect, which a body may have too
@@ -51,8 +51,8 @@ windows_before options =
     ∷ options
 
 -- the names of dataselect
-abbrev pub data_rows : List Named
-data_rows = windows_before data_options
+abbrev pub data_names : List Named
+data_names = windows_before data_options
 
 -- the options of station, which a body may have too; this data centre leaves out what comes last
 abbrev pub station_options : List Named
@@ -79,8 +79,8 @@ station_options =
     ∷ []
 
 -- the names of station
-abbrev pub station_rows : List Named
-station_rows = windows_before station_options
+abbrev pub station_names : List Named
+station_names = windows_before station_options
 
 -- two texts are one but for the case of ASCII letters
 abbrev pub same_name : Text → Text → Bool
@@ -91,12 +91,12 @@ abbrev pub is_called : Named → Text → Bool
 is_called row name = same_name name row.name || same_name name row.alias
 
 -- the row of a name in a table
-abbrev pub row_of : List Named → Text → Option ℕ
-row_of rows name = position (λ row. is_called row name) rows
+abbrev pub place_of_name : List Named → Text → Option ℕ
+place_of_name rows name = position (λ row. is_called row name) rows
 
-abbrev pub no_row : Named
-no_row = record { name = []; alias = []; kind = Time }
+abbrev pub no_name : Named
+no_name = record { name = []; alias = []; kind = Time }
 
 -- the kind of value of a row
-abbrev pub kind_of : List Named → ℕ → Kind
-kind_of rows row = (get_or rows row no_row).kind
+abbrev pub kind_of : List Named → ℕ → ValueKind
+kind_of rows row = (get_or rows row no_name).kind

@@ -6,8 +6,8 @@ use Rattle.query_words.specs.FirstRefusals.{IsFirstRefusal}
 use Rattle.query_words.specs.declared.fault.QueryFault.{QueryFault}
 use Rattle.query_words.specs.declared.fault.QueryFault.TheVariants.{Line, OutOfMemory}
 use Rattle.query_words.specs.declared.selections.FieldTexts.{FieldTexts}
-use Rattle.query_words.specs.declared.words.WordFault.{WordFault}
-use Rattle.query_words.specs.declared.words.WordFault.TheVariants as fault
+use Rattle.query_words.specs.declared.words.ValueFault.{ValueFault}
+use Rattle.query_words.specs.declared.words.ValueFault.TheVariants as fault
 
 -- fields, without where they lie in memory
 abbrev pub texts : FieldTexts → Fields
@@ -21,7 +21,7 @@ texts f = record {
 }
 
 -- why nothing with a property was read: nothing has it; want of memory is free
-abbrev pub HasNone : {X : Type 0} → (X → Type 0) → WordFault → Type 0
+abbrev pub HasNone : {X : Type 0} → (X → Type 0) → ValueFault → Type 0
 HasNone {X} P fault.Value = (x : X) → ¬ (P x)
 HasNone P fault.OutOfScope = ⊥
 HasNone P fault.OutOfMemory = ⊤
@@ -30,7 +30,7 @@ abbrev pub IsWindowPair : Fields → Option Moment × Option Moment → Type 0
 IsWindowPair f w = IsWindow f w.0 w.1
 
 -- how a fault of a line's value is a fault of a query
-abbrev pub line_fault : WordFault → ℕ → QueryFault
+abbrev pub line_fault : ValueFault → ℕ → QueryFault
 line_fault fault.Value number = Line number
 line_fault fault.OutOfScope number = Line number
 line_fault fault.OutOfMemory number = OutOfMemory

@@ -1,6 +1,6 @@
 -- What a body asks of station, and its faults (FDSN Web Service Specifications 1.2, station, POST).
 use Rattle.std.specs.Prelude.{◌<◌, length}
-use Rattle.query_words.specs.Bodies.{front_of, rest_of, parameters_in, AreSelections}
+use Rattle.query_words.specs.Bodies.{parameter_lines, selection_lines, parameters_in, AreSelections}
 use Rattle.query_words.specs.Places.{AreBounds, IsAreaInOrder, AreStationOptions}
 use Rattle.query_words.specs.Posts.{IsRightFront, IsBodyFaultBy, RefusesBodyBy}
 use Rattle.query_words.specs.Rows.{Text, station_options}
@@ -11,15 +11,15 @@ use Rattle.query_words.specs.declared.station.StationQuery.{StationQuery}
 -- the body asks for this: its selections and options, with limits that are in order
 pub record IsStationPost (body : Text) (q : StationQuery) : Type 0 where
   pub right : IsRightFront station_options body
-  pub selections_are : AreSelections (rest_of body) q.selections
-  pub some : 0 < length (rest_of body)
-  pub options : AreStationOptions station_options (parameters_in (front_of body)) q
+  pub selections_are : AreSelections (selection_lines body) q.selections
+  pub some : 0 < length (selection_lines body)
+  pub options : AreStationOptions station_options (parameters_in (parameter_lines body)) q
   pub in_order : IsAreaInOrder q.area
 
 -- a least limit is above its greatest
 pub record IsAreaTurned (body : Text) : Type 0 where
   pub area : Area
-  pub bounds : AreBounds station_options (parameters_in (front_of body)) area
+  pub bounds : AreBounds station_options (parameters_in (parameter_lines body)) area
   pub turned : ¬ (IsAreaInOrder area)
 
 -- the fault of a body

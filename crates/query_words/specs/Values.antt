@@ -15,8 +15,8 @@ use Rattle.dataselect.specs.declared.query.Nodata.TheVariants.{Quiet, NotFound}
 use Rattle.query_words.specs.Rows.{Text, same_name}
 use Rattle.query_words.specs.declared.station.Level.{Level}
 use Rattle.query_words.specs.declared.station.Level.TheVariants as level
-use Rattle.query_words.specs.declared.rows.Kind.{Kind}
-use Rattle.query_words.specs.declared.rows.Kind.TheVariants as kind
+use Rattle.query_words.specs.declared.rows.ValueKind.{ValueKind}
+use Rattle.query_words.specs.declared.rows.ValueKind.TheVariants as kind
 
 -- the quality that a letter asks for: B, any, and each other its own
 abbrev pub asked_of : ℕ → Option (Option Quality)
@@ -74,7 +74,7 @@ abbrev pub most_longitude : ℕ
 most_longitude = 180_000_000
 
 -- the text is a value of that kind
-abbrev pub CanRead : Kind → Text → Type 0
+abbrev pub CanRead : ValueKind → Text → Type 0
 CanRead kind.Time text = (micros : ℤ) × IsMoment text micros
 CanRead (kind.Patterns part) text = (list : List Text) × IsPatternList part text list
 CanRead kind.Nodata text = (nodata : Nodata) × (nodata_of text ≡ Some nodata)
@@ -95,12 +95,12 @@ abbrev pub is_garbled : Text → Bool
 is_garbled text = list_any (λ c. c == 0xFFFD) (chars text)
 
 -- the text is a value of that kind, in UTF-8
-pub record Reads (kind : Kind) (text : Text) : Type 0 where
+pub record Reads (kind : ValueKind) (text : Text) : Type 0 where
   pub plain : is_garbled text ≡ false
   pub can : CanRead kind text
 
 -- the text is a value that this data centre leaves out, or stands under a name that it leaves out
-abbrev pub IsLeftOut : Kind → Text → Type 0
+abbrev pub IsLeftOut : ValueKind → Text → Type 0
 IsLeftOut kind.Level text = text ≡ codes "response"
 IsLeftOut kind.TextForm text = text ≡ codes "xml"
 IsLeftOut kind.Always text = flag_of text ≡ Some false

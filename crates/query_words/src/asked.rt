@@ -4,7 +4,7 @@ ghost use Rattle.query_words.specs.Extracts.{limit_word, nodata_word, quality_wo
 ghost use Rattle.channel_globs.specs.PatternText.{IsPatternList};
 
 use crate::fault::QueryFault;
-use crate::words::Word;
+use crate::words::ParameterValue;
 use channel_globs::{Part, PatternList};
 use dataselect::{DataQuery, Nodata, Selection};
 use exact_time::{Many, Moment};
@@ -21,54 +21,54 @@ pub struct Options {
 }
 
 /// The limit of a word, if it is a time.
-pub fn limit_in(word: &Option<Word>) -> Option<Moment>
+pub fn limit_in(word: &Option<ParameterValue>) -> Option<Moment>
     ensures { result ≡ limit_word word.now }
 {
     match word {
-        Some(Word::Time(moment)) => Some(*moment),
+        Some(ParameterValue::Time(moment)) => Some(*moment),
         _ => None,
     }
 }
 
 /// What a word says of an answer without data.
-pub fn nodata_in(word: &Option<Word>) -> Nodata
+pub fn nodata_in(word: &Option<ParameterValue>) -> Nodata
     ensures { result ≡ nodata_word word.now }
 {
     match word {
-        Some(Word::Nodata(nodata)) => *nodata,
+        Some(ParameterValue::Nodata(nodata)) => *nodata,
         _ => Nodata::Quiet,
     }
 }
 
-fn quality_in(word: &Option<Word>) -> Option<Quality>
+fn quality_in(word: &Option<ParameterValue>) -> Option<Quality>
     ensures { result ≡ quality_word word.now }
 {
     match word {
-        Some(Word::Quality(quality)) => *quality,
+        Some(ParameterValue::Quality(quality)) => *quality,
         _ => None,
     }
 }
 
-fn minimum_in(word: &Option<Word>) -> u64
+fn minimum_in(word: &Option<ParameterValue>) -> u64
     ensures { result ≡ minimum_word word.now }
 {
     match word {
-        Some(Word::Micros(micros)) => *micros,
+        Some(ParameterValue::Micros(micros)) => *micros,
         _ => 0,
     }
 }
 
-fn flag_in(word: &Option<Word>) -> bool
+fn flag_in(word: &Option<ParameterValue>) -> bool
     ensures { result ≡ flag_word word.now }
 {
     match word {
-        Some(Word::Flag(flag)) => *flag,
+        Some(ParameterValue::Flag(flag)) => *flag,
         _ => false,
     }
 }
 
 /// The options of the words from that place on.
-pub fn options_in(words: &[Option<Word>], first: usize) -> Options
+pub fn options_in(words: &[Option<ParameterValue>], first: usize) -> Options
     requires { first + 4 ≤ length words.now }
     ensures { AreOptionWords words.now first result }
 {
@@ -107,7 +107,7 @@ fn any_code(alloc: Global, part: Part) -> Result<PatternList, QueryFault>
 // Takes the list of a word out, if it is one; else the list that matches any code.
 fn list_in(
     alloc: Global,
-    words: &mut Vec<Option<Word>>,
+    words: &mut Vec<Option<ParameterValue>>,
     row: usize,
     part: Part,
 ) -> Result<PatternList, QueryFault>
@@ -117,7 +117,7 @@ fn list_in(
     ensures taken { words.new.items ≡ set words.old.items row None }
 {
     match words[row].take() {
-        Some(Word::Patterns(list)) => Ok(list),
+        Some(ParameterValue::Patterns(list)) => Ok(list),
         _ => any_code(alloc, part),
     }
 }
@@ -125,7 +125,7 @@ fn list_in(
 /// The selection of four words from that place on, in a window.
 pub fn selection_in(
     alloc: Global,
-    words: &mut Vec<Option<Word>>,
+    words: &mut Vec<Option<ParameterValue>>,
     first: usize,
     start: Option<Moment>,
     end: Option<Moment>,

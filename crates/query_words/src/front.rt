@@ -4,14 +4,14 @@ ghost use Rattle.std.specs.List.{position_or_len};
 ghost use Rattle.std.specs.Str.{IsAscii};
 ghost use Rattle.form_urlencoded.specs.Form.{split_pair};
 ghost use Rattle.channel_globs.specs.PatternText.{without_spaces};
-ghost use Rattle.query_words.specs.Rows.{rows_of};
-ghost use Rattle.query_words.specs.Bodies.{equals_sign, seen};
+ghost use Rattle.query_words.specs.Rows.{names_of};
+ghost use Rattle.query_words.specs.Bodies.{equals_sign, numbered_line};
 ghost use Rattle.query_words.specs.Fronts.{PutsLine, RefusesPutLine, HasFront, RefusesFront};
 
 use crate::fault::QueryFault;
 use crate::lines::{BodyLine, trimmed};
-use crate::rows::Row;
-use crate::words::{Word, no_words, take_parameter};
+use crate::rows::ParameterName;
+use crate::words::{ParameterValue, no_words, take_parameter};
 use std::alloc::Global;
 
 // ASCII as text.
@@ -63,13 +63,13 @@ fn sides(text: &[u8]) -> (&[u8], &[u8])
 // Takes one parameter line.
 fn take_line(
     alloc: Global,
-    table: &[Row],
-    words: &mut Vec<Option<Word>>,
+    table: &[ParameterName],
+    words: &mut Vec<Option<ParameterValue>>,
     line: &BodyLine<'_>,
 ) -> Result<(), QueryFault>
     requires { length words.old.items ≡ length table.now }
-    ensures put { OnOk result (PutsLine (rows_of table.now) (seen line.now) words.old.items words.new.items) }
-    ensures refused { IfErr result (RefusesPutLine (rows_of table.now) (seen line.now) words.old.items) }
+    ensures put { OnOk result (PutsLine (names_of table.now) (numbered_line line.now) words.old.items words.new.items) }
+    ensures refused { IfErr result (RefusesPutLine (names_of table.now) (numbered_line line.now) words.old.items) }
 {
     if !line.text.is_ascii() {
         return Err(QueryFault::Line(line.number));
@@ -88,11 +88,11 @@ fn take_line(
 /// The words of the parameter lines of a body: the first wrong line decides.
 pub fn read_front(
     alloc: Global,
-    table: &[Row],
+    table: &[ParameterName],
     lines: &[BodyLine<'_>],
-) -> Result<Vec<Option<Word>>, QueryFault>
-    ensures words { IfOk result (λ v. HasFront (rows_of table.now) (map seen lines.now) v.items) }
-    ensures refused { IfErr result (RefusesFront (rows_of table.now) (map seen lines.now)) }
+) -> Result<Vec<Option<ParameterValue>>, QueryFault>
+    ensures words { IfOk result (λ v. HasFront (names_of table.now) (map numbered_line lines.now) v.items) }
+    ensures refused { IfErr result (RefusesFront (names_of table.now) (map numbered_line lines.now)) }
 {
     let mut words = no_words(alloc, table.len())?;
     'lines: for line in lines {

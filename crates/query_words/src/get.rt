@@ -7,7 +7,7 @@ ghost use Rattle.query_words.specs.DataGet.{IsDataGet, IsGetFault, RefusesGet};
 
 use crate::asked::{is_backwards, limit_in, options_in, query_of, selection_in};
 use crate::fault::QueryFault;
-use crate::rows::{CODES, END, OPTIONS, START, data_rows};
+use crate::rows::{CODES, END, OPTIONS, START, data_names};
 use crate::words::read_words;
 use dataselect::DataQuery;
 use exact_time::Many;
@@ -46,7 +46,7 @@ pub fn data_get(alloc: Global, query: &[u8]) -> Result<DataQuery, QueryFault>
     if has_too_many(query) {
         return Err(QueryFault::TooMany);
     }
-    let mut words = read_words(alloc, &data_rows(), query)?;
+    let mut words = read_words(alloc, &data_names(), query)?;
     let start = limit_in(&words[START]);
     let end = limit_in(&words[END]);
     if is_backwards(start, end) {

@@ -3,7 +3,7 @@ ghost use Rattle.std.specs.Prelude.{◌≡◌, ◌+◌, ◌<◌, ◌≤◌, ◌=
 ghost use Rattle.std.specs.List.{list_all, list_any, slice_split};
 ghost use Rattle.std.specs.Str.Lines.{lines, strip_carriage_return};
 ghost use Rattle.channel_globs.specs.PatternText.{drop_spaces, drop_end_spaces, without_spaces};
-ghost use Rattle.query_words.specs.Bodies.{is_gap, is_blank, has_equals, seen, lines_of, front_count};
+ghost use Rattle.query_words.specs.Bodies.{is_gap, is_blank_line, has_equals, numbered_line, lines_of, front_count};
 
 use std::alloc::{AllocError, Global};
 use text_lines::cut_line;
@@ -22,8 +22,8 @@ pub fn is_gap(byte: u8) -> bool
     byte == b' ' || byte == b'\t'
 }
 
-fn is_blank(text: &[u8]) -> bool
-    ensures { result ≡ is_blank text.now }
+fn is_blank_line(text: &[u8]) -> bool
+    ensures { result ≡ is_blank_line text.now }
 {
     text.iter().all(|byte| is_gap(*byte))
 }
@@ -43,7 +43,7 @@ pub fn line_count(body: &[u8]) -> usize
     let mut left = body;
     'lines: while !left.is_empty() {
         let (text, rest) = cut_line(left);
-        if !is_blank(text) {
+        if !is_blank_line(text) {
             count += 1;
         }
         left = rest;
@@ -53,7 +53,7 @@ pub fn line_count(body: &[u8]) -> usize
 
 /// The lines of a body that aren't blank, with their numbers.
 pub fn body_lines(alloc: Global, body: &[u8]) -> Result<Vec<BodyLine<'_>>, AllocError>
-    ensures { IfOk result (λ v. map seen v.items ≡ lines_of body.now) }
+    ensures { IfOk result (λ v. map numbered_line v.items ≡ lines_of body.now) }
 {
     let mut lines = Vec::new(alloc);
     let mut number = 0usize;
@@ -61,7 +61,7 @@ pub fn body_lines(alloc: Global, body: &[u8]) -> Result<Vec<BodyLine<'_>>, Alloc
     'lines: while !left.is_empty() {
         let (text, rest) = cut_line(left);
         number += 1;
-        if !is_blank(text) {
+        if !is_blank_line(text) {
             lines.push(BodyLine {
                 number: number as u64,
                 text,
@@ -74,7 +74,7 @@ pub fn body_lines(alloc: Global, body: &[u8]) -> Result<Vec<BodyLine<'_>>, Alloc
 
 /// How many parameter lines there are: lines with `=` before the first without.
 pub fn front_len(lines: &[BodyLine<'_>]) -> usize
-    ensures value { result ≡ front_count (map seen lines.now) }
+    ensures value { result ≡ front_count (map numbered_line lines.now) }
     ensures within { result ≤ length lines.now }
 {
     let mut count = 0usize;

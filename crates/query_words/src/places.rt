@@ -5,7 +5,7 @@ ghost use Rattle.query_words.specs.Places.{IsRange, IsAreaInOrder};
 
 use crate::asked::{limit_in, nodata_in};
 use crate::station::{Area, Level, Limits2, StationQuery};
-use crate::words::Word;
+use crate::words::ParameterValue;
 use dataselect::{Nodata, Selection};
 use exact_time::{Decimal, Many, Moment};
 
@@ -21,26 +21,26 @@ pub struct StationOptions {
     pub level: Level,
 }
 
-fn number_in(word: &Option<Word>) -> Option<Decimal>
+fn number_in(word: &Option<ParameterValue>) -> Option<Decimal>
     ensures { result ≡ number_word word.now }
 {
     match word {
-        Some(Word::Number(number)) => Some(*number),
+        Some(ParameterValue::Number(number)) => Some(*number),
         _ => None,
     }
 }
 
-fn level_in(word: &Option<Word>) -> Level
+fn level_in(word: &Option<ParameterValue>) -> Level
     ensures { result ≡ level_word word.now }
 {
     match word {
-        Some(Word::Level(level)) => *level,
+        Some(ParameterValue::Level(level)) => *level,
         _ => Level::Station,
     }
 }
 
 // The place of four words from that place on.
-fn area_in(words: &[Option<Word>], first: usize) -> Area
+fn area_in(words: &[Option<ParameterValue>], first: usize) -> Area
     requires { first + 4 ≤ length words.now }
     ensures { AreAreaWords words.now first result }
 {
@@ -57,7 +57,7 @@ fn area_in(words: &[Option<Word>], first: usize) -> Area
 }
 
 /// The options of the words from that place on.
-pub fn station_options_in(words: &[Option<Word>], first: usize) -> StationOptions
+pub fn station_options_in(words: &[Option<ParameterValue>], first: usize) -> StationOptions
     requires { first + 10 ≤ length words.now }
     ensures { AreStationWords words.now first result }
 {

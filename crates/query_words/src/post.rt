@@ -7,7 +7,7 @@ use crate::asked::{options_in, query_of};
 use crate::fault::QueryFault;
 use crate::front::read_front;
 use crate::lines::{body_lines, front_len, line_count};
-use crate::rows::{OPTIONS, data_rows};
+use crate::rows::{OPTIONS, data_names};
 use crate::selections::read_selections;
 use dataselect::DataQuery;
 use std::alloc::Global;
@@ -34,7 +34,7 @@ pub fn data_post(alloc: Global, body: &[u8]) -> Result<DataQuery, QueryFault>
     if front > MOST_PARAMETERS || lines.len() - front > MOST_SELECTIONS {
         return Err(QueryFault::TooMany);
     }
-    let words = read_front(alloc, &data_rows()[OPTIONS..], &lines[..front])?;
+    let words = read_front(alloc, &data_names()[OPTIONS..], &lines[..front])?;
     let selections = read_selections(alloc, &lines[front..])?;
     if selections.is_empty() {
         return Err(QueryFault::NoLine);

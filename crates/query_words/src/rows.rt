@@ -1,12 +1,12 @@
 //! The names that a method has.
 ghost use Rattle.std.specs.Prelude.{◌≡◌, position};
-ghost use Rattle.query_words.specs.Rows.{is_called, row_of, rows_of, named, with_alias, alone, data_rows, station_rows};
+ghost use Rattle.query_words.specs.Rows.{is_called, place_of_name, names_of, named, with_alias, alone, data_names, station_names};
 
 use channel_globs::Part;
 
 /// What a name's value is.
 #[derive(Clone, Copy, Debug, PartialEq, Eq)]
-pub enum Kind {
+pub enum ValueKind {
     /// A time.
     Time,
     /// A list of patterns of that code.
@@ -39,10 +39,10 @@ pub enum Kind {
 
 /// A name that a method has; its alias is the name itself where it has none.
 #[derive(Clone, Copy)]
-pub struct Row {
+pub struct ParameterName {
     pub name: &'static str,
     pub alias: &'static str,
-    pub kind: Kind,
+    pub kind: ValueKind,
 }
 
 /// Where the rows of dataselect have the start and the end of a window.
@@ -56,88 +56,88 @@ pub const CODES: usize = 2;
 /// Where they have the first option, which a body may have too.
 pub const OPTIONS: usize = 6;
 
-impl Row {
-    fn with_alias(name: &'static str, alias: &'static str, kind: Kind) -> Row
+impl ParameterName {
+    fn with_alias(name: &'static str, alias: &'static str, kind: ValueKind) -> ParameterName
         ensures { named result ≡ with_alias name.now alias.now kind }
     {
-        Row { name, alias, kind }
+        ParameterName { name, alias, kind }
     }
 
-    fn new(name: &'static str, kind: Kind) -> Row
+    fn new(name: &'static str, kind: ValueKind) -> ParameterName
         ensures { named result ≡ alone name.now kind }
     {
-        Row::with_alias(name, name, kind)
+        ParameterName::with_alias(name, name, kind)
     }
 }
 
 /// The names of dataselect: the times, the codes, and behind them the options.
-pub fn data_rows() -> [Row; 11]
-    ensures { rows_of result ≡ data_rows }
+pub fn data_names() -> [ParameterName; 11]
+    ensures { names_of result ≡ data_names }
 {
     [
-        Row::with_alias("starttime", "start", Kind::Time),
-        Row::with_alias("endtime", "end", Kind::Time),
-        Row::with_alias("network", "net", Kind::Patterns(Part::Network)),
-        Row::with_alias("station", "sta", Kind::Patterns(Part::Station)),
-        Row::with_alias("location", "loc", Kind::Patterns(Part::Location)),
-        Row::with_alias("channel", "cha", Kind::Patterns(Part::Channel)),
-        Row::new("nodata", Kind::Nodata),
-        Row::new("quality", Kind::Quality),
-        Row::new("minimumlength", Kind::Seconds),
-        Row::new("longestonly", Kind::Flag),
-        Row::new("format", Kind::Format),
+        ParameterName::with_alias("starttime", "start", ValueKind::Time),
+        ParameterName::with_alias("endtime", "end", ValueKind::Time),
+        ParameterName::with_alias("network", "net", ValueKind::Patterns(Part::Network)),
+        ParameterName::with_alias("station", "sta", ValueKind::Patterns(Part::Station)),
+        ParameterName::with_alias("location", "loc", ValueKind::Patterns(Part::Location)),
+        ParameterName::with_alias("channel", "cha", ValueKind::Patterns(Part::Channel)),
+        ParameterName::new("nodata", ValueKind::Nodata),
+        ParameterName::new("quality", ValueKind::Quality),
+        ParameterName::new("minimumlength", ValueKind::Seconds),
+        ParameterName::new("longestonly", ValueKind::Flag),
+        ParameterName::new("format", ValueKind::Format),
     ]
 }
 
 /// The names of station: the times, the codes, and behind them the options.
-pub fn station_rows() -> [Row; 25]
-    ensures { rows_of result ≡ station_rows }
+pub fn station_names() -> [ParameterName; 25]
+    ensures { names_of result ≡ station_names }
 {
     [
-        Row::with_alias("starttime", "start", Kind::Time),
-        Row::with_alias("endtime", "end", Kind::Time),
-        Row::with_alias("network", "net", Kind::Patterns(Part::Network)),
-        Row::with_alias("station", "sta", Kind::Patterns(Part::Station)),
-        Row::with_alias("location", "loc", Kind::Patterns(Part::Location)),
-        Row::with_alias("channel", "cha", Kind::Patterns(Part::Channel)),
-        Row::new("nodata", Kind::Nodata),
-        Row::new("startbefore", Kind::Time),
-        Row::new("startafter", Kind::Time),
-        Row::new("endbefore", Kind::Time),
-        Row::new("endafter", Kind::Time),
-        Row::with_alias("minlatitude", "minlat", Kind::Latitude),
-        Row::with_alias("maxlatitude", "maxlat", Kind::Latitude),
-        Row::with_alias("minlongitude", "minlon", Kind::Longitude),
-        Row::with_alias("maxlongitude", "maxlon", Kind::Longitude),
-        Row::new("level", Kind::Level),
-        Row::new("format", Kind::TextForm),
-        Row::new("includerestricted", Kind::Always),
-        Row::new("includeavailability", Kind::Never),
-        Row::new("matchtimeseries", Kind::Never),
-        Row::with_alias("latitude", "lat", Kind::LeftOut),
-        Row::with_alias("longitude", "lon", Kind::LeftOut),
-        Row::new("minradius", Kind::LeftOut),
-        Row::new("maxradius", Kind::LeftOut),
-        Row::new("updatedafter", Kind::LeftOut),
+        ParameterName::with_alias("starttime", "start", ValueKind::Time),
+        ParameterName::with_alias("endtime", "end", ValueKind::Time),
+        ParameterName::with_alias("network", "net", ValueKind::Patterns(Part::Network)),
+        ParameterName::with_alias("station", "sta", ValueKind::Patterns(Part::Station)),
+        ParameterName::with_alias("location", "loc", ValueKind::Patterns(Part::Location)),
+        ParameterName::with_alias("channel", "cha", ValueKind::Patterns(Part::Channel)),
+        ParameterName::new("nodata", ValueKind::Nodata),
+        ParameterName::new("startbefore", ValueKind::Time),
+        ParameterName::new("startafter", ValueKind::Time),
+        ParameterName::new("endbefore", ValueKind::Time),
+        ParameterName::new("endafter", ValueKind::Time),
+        ParameterName::with_alias("minlatitude", "minlat", ValueKind::Latitude),
+        ParameterName::with_alias("maxlatitude", "maxlat", ValueKind::Latitude),
+        ParameterName::with_alias("minlongitude", "minlon", ValueKind::Longitude),
+        ParameterName::with_alias("maxlongitude", "maxlon", ValueKind::Longitude),
+        ParameterName::new("level", ValueKind::Level),
+        ParameterName::new("format", ValueKind::TextForm),
+        ParameterName::new("includerestricted", ValueKind::Always),
+        ParameterName::new("includeavailability", ValueKind::Never),
+        ParameterName::new("matchtimeseries", ValueKind::Never),
+        ParameterName::with_alias("latitude", "lat", ValueKind::LeftOut),
+        ParameterName::with_alias("longitude", "lon", ValueKind::LeftOut),
+        ParameterName::new("minradius", ValueKind::LeftOut),
+        ParameterName::new("maxradius", ValueKind::LeftOut),
+        ParameterName::new("updatedafter", ValueKind::LeftOut),
     ]
 }
 
-fn is_called(row: &Row, name: &[u8]) -> bool
+fn is_called(row: &ParameterName, name: &[u8]) -> bool
     ensures { result ≡ is_called (named row.now) name.now }
 {
     name.eq_ignore_ascii_case(row.name.as_bytes())
         || name.eq_ignore_ascii_case(row.alias.as_bytes())
 }
 
-fn place_of(table: &[Row], name: &[u8]) -> Option<usize>
+fn place_of(table: &[ParameterName], name: &[u8]) -> Option<usize>
     ensures { result ≡ position (λ row. is_called (named row) name.now) table.now }
 {
     table.iter().position(|row| is_called(row, name))
 }
 
 /// The row of a name in a table.
-pub fn row_of(table: &[Row], name: &[u8]) -> Option<usize>
-    ensures { result ≡ row_of (rows_of table.now) name.now }
+pub fn place_of_name(table: &[ParameterName], name: &[u8]) -> Option<usize>
+    ensures { result ≡ place_of_name (names_of table.now) name.now }
 {
     place_of(table, name)
 }

@@ -1,13 +1,13 @@
 //! The selection lines of a body.
 ghost use Rattle.std.specs.Prelude.{◌≡◌, ◌==◌, Option, IfOk, IfErr, MatchOption, map, filter};
-ghost use Rattle.query_words.specs.Bodies.{Fields, fields_of, limit_text, AreFields, AreCodeFields, IsWindow, AreSix, AreSelections, IsSelection, seen};
+ghost use Rattle.query_words.specs.Bodies.{Fields, selection_fields, limit_text, AreFields, AreCodeFields, IsWindow, AreSix, AreSelections, IsSelection, numbered_line};
 ghost use Rattle.query_words.specs.Gets.{IsLimit};
 ghost use Rattle.query_words.specs.Selecting.{texts, HasNone, IsWindowPair, line_fault, RefusesRest};
 
 use crate::asked::is_backwards;
 use crate::fault::QueryFault;
 use crate::lines::{BodyLine, has_equals, is_gap};
-use crate::words::{WordFault, read_list};
+use crate::words::{ValueFault, read_list};
 use channel_globs::Part;
 use dataselect::Selection;
 use exact_time::{Many, Moment};
@@ -26,7 +26,7 @@ pub struct FieldTexts<'a> {
 
 // The fields of a line, between runs of spaces and tabs.
 fn field_list(alloc: Global, text: &[u8]) -> Result<Vec<&[u8]>, AllocError>
-    ensures { IfOk result (λ v. map (λ x. x.now) v.items ≡ fields_of text.now) }
+    ensures { IfOk result (λ v. map (λ x. x.now) v.items ≡ selection_fields text.now) }
 {
     text.split(|byte| is_gap(*byte))
         .filter(|field| !field.is_empty())
@@ -51,7 +51,7 @@ fn six_of<'a>(fields: &[&'a [u8]]) -> Option<FieldTexts<'a>>
 }
 
 // A limit of a selection line; `*` is none.
-fn limit_of(text: &[u8]) -> Result<Option<Moment>, WordFault>
+fn limit_of(text: &[u8]) -> Result<Option<Moment>, ValueFault>
     ensures limit { IfOk result (IsLimit (limit_text text.now)) }
     ensures refused { IfErr result (HasNone (IsLimit (limit_text text.now))) }
 {
@@ -60,19 +60,19 @@ fn limit_of(text: &[u8]) -> Result<Option<Moment>, WordFault>
     }
     match Moment::read(text) {
         Ok(moment) => Ok(Some(moment)),
-        Err(_) => Err(WordFault::Value),
+        Err(_) => Err(ValueFault::Value),
     }
 }
 
 // The window of two fields.
-fn window_of(fields: &FieldTexts<'_>) -> Result<(Option<Moment>, Option<Moment>), WordFault>
+fn window_of(fields: &FieldTexts<'_>) -> Result<(Option<Moment>, Option<Moment>), ValueFault>
     ensures window { IfOk result (λ w. IsWindow (texts fields.now) w.0 w.1) }
     ensures refused { IfErr result (HasNone (IsWindowPair (texts fields.now))) }
 {
     let start = limit_of(fields.start)?;
     let end = limit_of(fields.end)?;
     if is_backwards(start, end) {
-        return Err(WordFault::Value);
+        return Err(ValueFault::Value);
     }
     Ok((start, end))
 }
@@ -83,7 +83,7 @@ fn selection_of(
     fields: &FieldTexts<'_>,
     start: Option<Moment>,
     end: Option<Moment>,
-) -> Result<Selection, WordFault>
+) -> Result<Selection, ValueFault>
     ensures codes { IfOk result (AreCodeFields (texts fields.now)) }
     ensures start { IfOk result (λ s. s.start ≡ start) }
     ensures end { IfOk result (λ s. s.end ≡ end) }
@@ -104,7 +104,7 @@ fn selection_of(
 }
 
 // The selection of six fields.
-fn spelled(alloc: Global, fields: &FieldTexts<'_>) -> Result<Selection, WordFault>
+fn spelled(alloc: Global, fields: &FieldTexts<'_>) -> Result<Selection, ValueFault>
     ensures selection { IfOk result (AreFields (texts fields.now)) }
     ensures refused { IfErr result (HasNone (AreFields (texts fields.now))) }
 {
@@ -113,36 +113,36 @@ fn spelled(alloc: Global, fields: &FieldTexts<'_>) -> Result<Selection, WordFaul
 }
 
 // The selection of a line.
-fn read_selection(alloc: Global, text: &[u8]) -> Result<Selection, WordFault>
+fn read_selection(alloc: Global, text: &[u8]) -> Result<Selection, ValueFault>
     ensures selection { IfOk result (IsSelection text.now) }
     ensures refused { IfErr result (HasNone (IsSelection text.now)) }
 {
     if !text.is_ascii() || has_equals(text) {
-        return Err(WordFault::Value);
+        return Err(ValueFault::Value);
     }
     let Ok(fields) = field_list(alloc, text) else {
-        return Err(WordFault::OutOfMemory);
+        return Err(ValueFault::OutOfMemory);
     };
     match six_of(&fields) {
         Some(six) => spelled(alloc, &six),
-        None => Err(WordFault::Value),
+        None => Err(ValueFault::Value),
     }
 }
 
 // How a fault of a line's value is a fault of a query.
-fn line_fault(fault: WordFault, number: u64) -> QueryFault
+fn line_fault(fault: ValueFault, number: u64) -> QueryFault
     ensures { result ≡ line_fault fault number }
 {
     match fault {
-        WordFault::OutOfMemory => QueryFault::OutOfMemory,
+        ValueFault::OutOfMemory => QueryFault::OutOfMemory,
         _ => QueryFault::Line(number),
     }
 }
 
 /// The selections of the lines behind the parameter lines: the first wrong line decides.
 pub fn read_selections(alloc: Global, lines: &[BodyLine<'_>]) -> Result<Many<Selection>, QueryFault>
-    ensures selections { IfOk result (AreSelections (map seen lines.now)) }
-    ensures refused { IfErr result (RefusesRest (map seen lines.now)) }
+    ensures selections { IfOk result (AreSelections (map numbered_line lines.now)) }
+    ensures refused { IfErr result (RefusesRest (map numbered_line lines.now)) }
 {
     let mut selections = Many::new(alloc);
     'lines: for line in lines {

@@ -8,7 +8,7 @@ use crate::front::read_front;
 use crate::lines::{body_lines, front_len, line_count};
 use crate::places::{is_area_in_order, station_options_in, station_query_of};
 use crate::post::{MOST_PARAMETERS, MOST_SELECTIONS};
-use crate::rows::{OPTIONS, station_rows};
+use crate::rows::{OPTIONS, station_names};
 use crate::selections::read_selections;
 use crate::station::StationQuery;
 use std::alloc::Global;
@@ -29,7 +29,7 @@ pub fn station_post(alloc: Global, body: &[u8]) -> Result<StationQuery, QueryFau
     if front > MOST_PARAMETERS || lines.len() - front > MOST_SELECTIONS {
         return Err(QueryFault::TooMany);
     }
-    let words = read_front(alloc, &station_rows()[OPTIONS..], &lines[..front])?;
+    let words = read_front(alloc, &station_names()[OPTIONS..], &lines[..front])?;
     let selections = read_selections(alloc, &lines[front..])?;
     let options = station_options_in(&words, 0);
     if !is_area_in_order(options.area) {

@@ -7,7 +7,7 @@ use crate::asked::{is_backwards, limit_in, selection_in};
 use crate::fault::QueryFault;
 use crate::get::has_too_many;
 use crate::places::{is_area_in_order, station_options_in, station_query_of};
-use crate::rows::{CODES, END, OPTIONS, START, station_rows};
+use crate::rows::{CODES, END, OPTIONS, START, station_names};
 use crate::station::StationQuery;
 use crate::words::read_words;
 use exact_time::Many;
@@ -25,7 +25,7 @@ pub fn station_get(alloc: Global, query: &[u8]) -> Result<StationQuery, QueryFau
     if has_too_many(query) {
         return Err(QueryFault::TooMany);
     }
-    let mut words = read_words(alloc, &station_rows(), query)?;
+    let mut words = read_words(alloc, &station_names(), query)?;
     let start = limit_in(&words[START]);
     let end = limit_in(&words[END]);
     let options = station_options_in(&words, OPTIONS);

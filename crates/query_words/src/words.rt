@@ -2,13 +2,13 @@
 ghost use Rattle.std.specs.Prelude.{◌≡◌, ◌≤◌, ◌==◌, ◌↔◌, IsTrue, List, [], length, replicate, None, IfOk, IfErr, OnOk, MatchResult};
 ghost use Rattle.std.specs.List.{list_any};
 ghost use Rattle.channel_globs.specs.PatternText.{IsPatternList};
-ghost use Rattle.query_words.specs.Rows.{rows_of, kind_of};
+ghost use Rattle.query_words.specs.Rows.{names_of, kind_of};
 ghost use Rattle.query_words.specs.Values.{is_garbled, IsLeftOut};
 ghost use Rattle.query_words.specs.Parameters.{pairs_of, parameters_of};
-ghost use Rattle.query_words.specs.Words.{IsWord, RefusesWord, CannotRead, list_fault, IsOption, IsFixed, IsPlace, ReadsWord, PutsWord, RefusesPut, HasRead, RefusesWords};
+ghost use Rattle.query_words.specs.Words.{IsParameterValue, RefusesValue, CannotRead, list_fault, IsOption, IsFixed, IsPlace, ReadsValue, PutsValue, RefusesPut, HasReadParameters, RefusesParameters};
 
 use crate::fault::QueryFault;
-use crate::rows::{Kind, Row, row_of};
+use crate::rows::{ParameterName, ValueKind, place_of_name};
 use crate::station::Level;
 use crate::values::{read_degrees, read_flag, read_level, read_minimum, read_nodata, read_quality};
 use channel_globs::{GlobFault, Part, PatternList};
@@ -19,7 +19,7 @@ use std::alloc::{AllocError, Global};
 
 /// A value that was read.
 #[derive(Drop)]
-pub enum Word {
+pub enum ParameterValue {
     Time(Moment),
     Patterns(PatternList),
     Nodata(Nodata),
@@ -34,7 +34,7 @@ pub enum Word {
 
 /// Why a value is refused.
 #[derive(Clone, Copy, Debug, PartialEq, Eq, Drop)]
-pub enum WordFault {
+pub enum ValueFault {
     OutOfScope,
     Value,
     OutOfMemory,
@@ -47,30 +47,30 @@ fn is_garbled(text: &str) -> bool
     text.chars().any(|c| c == '\u{FFFD}')
 }
 
-fn read_time(text: &[u8]) -> Result<Word, WordFault>
-    ensures word { IfOk result (IsWord Kind.Time text.now) }
-    ensures refused { IfErr result (CannotRead Kind.Time text.now) }
+fn read_time(text: &[u8]) -> Result<ParameterValue, ValueFault>
+    ensures word { IfOk result (IsParameterValue ValueKind.Time text.now) }
+    ensures refused { IfErr result (CannotRead ValueKind.Time text.now) }
 {
     match Moment::read(text) {
-        Ok(moment) => Ok(Word::Time(moment)),
-        Err(_) => Err(WordFault::Value),
+        Ok(moment) => Ok(ParameterValue::Time(moment)),
+        Err(_) => Err(ValueFault::Value),
     }
 }
 
 // How a fault of a pattern list is a fault of a value.
-fn list_fault(fault: GlobFault) -> WordFault
+fn list_fault(fault: GlobFault) -> ValueFault
     ensures { result ≡ list_fault fault }
 {
     match fault {
-        GlobFault::OutOfMemory => WordFault::OutOfMemory,
-        _ => WordFault::Value,
+        GlobFault::OutOfMemory => ValueFault::OutOfMemory,
+        _ => ValueFault::Value,
     }
 }
 
 /// Reads a list of patterns.
-pub fn read_list(alloc: Global, part: Part, text: &[u8]) -> Result<PatternList, WordFault>
+pub fn read_list(alloc: Global, part: Part, text: &[u8]) -> Result<PatternList, ValueFault>
     ensures list { IfOk result (IsPatternList part text.now) }
-    ensures refused { IfErr result (CannotRead (Kind.Patterns part) text.now) }
+    ensures refused { IfErr result (CannotRead (ValueKind.Patterns part) text.now) }
 {
     match PatternList::read(alloc, text, part) {
         Ok(list) => Ok(list),
@@ -78,132 +78,134 @@ pub fn read_list(alloc: Global, part: Part, text: &[u8]) -> Result<PatternList, 
     }
 }
 
-fn read_patterns(alloc: Global, part: Part, text: &[u8]) -> Result<Word, WordFault>
-    ensures word { IfOk result (IsWord (Kind.Patterns part) text.now) }
-    ensures refused { IfErr result (CannotRead (Kind.Patterns part) text.now) }
+fn read_patterns(alloc: Global, part: Part, text: &[u8]) -> Result<ParameterValue, ValueFault>
+    ensures word { IfOk result (IsParameterValue (ValueKind.Patterns part) text.now) }
+    ensures refused { IfErr result (CannotRead (ValueKind.Patterns part) text.now) }
 {
     match read_list(alloc, part, text) {
-        Ok(list) => Ok(Word::Patterns(list)),
+        Ok(list) => Ok(ParameterValue::Patterns(list)),
         Err(fault) => Err(fault),
     }
 }
 
 // The value of a kind that takes one value alone.
-fn read_fixed(kind: Kind, text: &[u8]) -> Result<Word, WordFault>
+fn read_fixed(kind: ValueKind, text: &[u8]) -> Result<ParameterValue, ValueFault>
     requires { IsFixed kind }
-    ensures word { IfOk result (IsWord kind text.now) }
+    ensures word { IfOk result (IsParameterValue kind text.now) }
     ensures refused { IfErr result (CannotRead kind text.now) }
 {
     let right = match kind {
-        Kind::Format => text == b"miniseed".as_slice(),
-        Kind::TextForm => text == b"text".as_slice(),
-        Kind::Always => read_flag(text) == Ok(true),
+        ValueKind::Format => text == b"miniseed".as_slice(),
+        ValueKind::TextForm => text == b"text".as_slice(),
+        ValueKind::Always => read_flag(text) == Ok(true),
         _ => read_flag(text) == Ok(false),
     };
     if right {
-        return Ok(Word::Nothing);
+        return Ok(ParameterValue::Nothing);
     }
-    Err(WordFault::Value)
+    Err(ValueFault::Value)
 }
 
 // A number of degrees.
-fn read_place(kind: Kind, text: &[u8]) -> Result<Word, WordFault>
+fn read_place(kind: ValueKind, text: &[u8]) -> Result<ParameterValue, ValueFault>
     requires { IsPlace kind }
-    ensures word { IfOk result (IsWord kind text.now) }
+    ensures word { IfOk result (IsParameterValue kind text.now) }
     ensures refused { IfErr result (CannotRead kind text.now) }
 {
     let number = match kind {
-        Kind::Latitude => read_degrees(90_000_000, text),
+        ValueKind::Latitude => read_degrees(90_000_000, text),
         _ => read_degrees(180_000_000, text),
     };
     match number {
-        Ok(degrees) => Ok(Word::Number(degrees)),
-        Err(_) => Err(WordFault::Value),
+        Ok(degrees) => Ok(ParameterValue::Number(degrees)),
+        Err(_) => Err(ValueFault::Value),
     }
 }
 
-fn read_level_word(text: &[u8]) -> Result<Word, WordFault>
-    ensures word { IfOk result (IsWord Kind.Level text.now) }
-    ensures refused { IfErr result (CannotRead Kind.Level text.now) }
+fn read_level_word(text: &[u8]) -> Result<ParameterValue, ValueFault>
+    ensures word { IfOk result (IsParameterValue ValueKind.Level text.now) }
+    ensures refused { IfErr result (CannotRead ValueKind.Level text.now) }
 {
     match read_level(text) {
-        Ok(level) => Ok(Word::Level(level)),
-        Err(_) => Err(WordFault::Value),
+        Ok(level) => Ok(ParameterValue::Level(level)),
+        Err(_) => Err(ValueFault::Value),
     }
 }
 
 // Whether the value, or all under the name, is one that this data centre leaves out.
-fn is_left_out(kind: Kind, text: &[u8]) -> bool
+fn is_left_out(kind: ValueKind, text: &[u8]) -> bool
     ensures { IsTrue result ↔ IsLeftOut kind text.now }
 {
     match kind {
-        Kind::LeftOut => true,
-        Kind::Level => text == b"response".as_slice(),
-        Kind::TextForm => text == b"xml".as_slice(),
-        Kind::Always => read_flag(text) == Ok(false),
-        Kind::Never => read_flag(text) == Ok(true),
+        ValueKind::LeftOut => true,
+        ValueKind::Level => text == b"response".as_slice(),
+        ValueKind::TextForm => text == b"xml".as_slice(),
+        ValueKind::Always => read_flag(text) == Ok(false),
+        ValueKind::Never => read_flag(text) == Ok(true),
         _ => false,
     }
 }
 
 // The value of an option.
-fn read_option(kind: Kind, text: &[u8]) -> Result<Word, WordFault>
+fn read_option(kind: ValueKind, text: &[u8]) -> Result<ParameterValue, ValueFault>
     requires { IsOption kind }
-    ensures word { IfOk result (IsWord kind text.now) }
+    ensures word { IfOk result (IsParameterValue kind text.now) }
     ensures refused { IfErr result (CannotRead kind text.now) }
 {
     match kind {
-        Kind::Nodata => match read_nodata(text) {
-            Ok(nodata) => Ok(Word::Nodata(nodata)),
-            Err(_) => Err(WordFault::Value),
+        ValueKind::Nodata => match read_nodata(text) {
+            Ok(nodata) => Ok(ParameterValue::Nodata(nodata)),
+            Err(_) => Err(ValueFault::Value),
         },
-        Kind::Quality => match read_quality(text) {
-            Ok(quality) => Ok(Word::Quality(quality)),
-            Err(_) => Err(WordFault::Value),
+        ValueKind::Quality => match read_quality(text) {
+            Ok(quality) => Ok(ParameterValue::Quality(quality)),
+            Err(_) => Err(ValueFault::Value),
         },
-        Kind::Seconds => match read_minimum(text) {
-            Ok(micros) => Ok(Word::Micros(micros)),
-            Err(_) => Err(WordFault::Value),
+        ValueKind::Seconds => match read_minimum(text) {
+            Ok(micros) => Ok(ParameterValue::Micros(micros)),
+            Err(_) => Err(ValueFault::Value),
         },
         _ => match read_flag(text) {
-            Ok(flag) => Ok(Word::Flag(flag)),
-            Err(_) => Err(WordFault::Value),
+            Ok(flag) => Ok(ParameterValue::Flag(flag)),
+            Err(_) => Err(ValueFault::Value),
         },
     }
 }
 
 // The value of a kind.
-fn read_text(alloc: Global, kind: Kind, text: &[u8]) -> Result<Word, WordFault>
-    ensures word { IfOk result (IsWord kind text.now) }
+fn read_text(alloc: Global, kind: ValueKind, text: &[u8]) -> Result<ParameterValue, ValueFault>
+    ensures word { IfOk result (IsParameterValue kind text.now) }
     ensures refused { IfErr result (CannotRead kind text.now) }
 {
     match kind {
-        Kind::Time => read_time(text),
-        Kind::Patterns(part) => read_patterns(alloc, part, text),
-        Kind::Nodata | Kind::Quality | Kind::Seconds | Kind::Flag => read_option(kind, text),
-        Kind::Latitude | Kind::Longitude => read_place(kind, text),
-        Kind::Level => read_level_word(text),
-        Kind::Format | Kind::TextForm | Kind::Always | Kind::Never => read_fixed(kind, text),
-        Kind::LeftOut => Err(WordFault::Value),
+        ValueKind::Time => read_time(text),
+        ValueKind::Patterns(part) => read_patterns(alloc, part, text),
+        ValueKind::Nodata | ValueKind::Quality | ValueKind::Seconds | ValueKind::Flag =>
+            read_option(kind, text),
+        ValueKind::Latitude | ValueKind::Longitude => read_place(kind, text),
+        ValueKind::Level => read_level_word(text),
+        ValueKind::Format | ValueKind::TextForm | ValueKind::Always | ValueKind::Never =>
+            read_fixed(kind, text),
+        ValueKind::LeftOut => Err(ValueFault::Value),
     }
 }
 
 /// Reads a value of a kind.
-pub fn read_word(alloc: Global, kind: Kind, value: &str) -> Result<Word, WordFault>
-    ensures word { IfOk result (ReadsWord kind value.now) }
-    ensures refused { IfErr result (RefusesWord kind value.now) }
+pub fn read_word(alloc: Global, kind: ValueKind, value: &str) -> Result<ParameterValue, ValueFault>
+    ensures word { IfOk result (ReadsValue kind value.now) }
+    ensures refused { IfErr result (RefusesValue kind value.now) }
 {
     if is_left_out(kind, value.as_bytes()) {
-        return Err(WordFault::OutOfScope);
+        return Err(ValueFault::OutOfScope);
     }
     if is_garbled(value) {
-        return Err(WordFault::Value);
+        return Err(ValueFault::Value);
     }
     read_text(alloc, kind, value.as_bytes())
 }
 
 /// No word for each of so many names.
-pub fn no_words(alloc: Global, count: usize) -> Result<Vec<Option<Word>>, AllocError>
+pub fn no_words(alloc: Global, count: usize) -> Result<Vec<Option<ParameterValue>>, AllocError>
     ensures { IfOk result (λ v. v.items ≡ replicate count None) }
 {
     let mut words = Vec::new(alloc);
@@ -216,17 +218,17 @@ pub fn no_words(alloc: Global, count: usize) -> Result<Vec<Option<Word>>, AllocE
 /// Takes one parameter.
 pub fn take_parameter(
     alloc: Global,
-    table: &[Row],
-    words: &mut Vec<Option<Word>>,
+    table: &[ParameterName],
+    words: &mut Vec<Option<ParameterValue>>,
     number: u64,
     name: &str,
     value: &str,
 ) -> Result<(), QueryFault>
     requires { length words.old.items ≡ length table.now }
-    ensures put { OnOk result (PutsWord (rows_of table.now) name.now value.now words.old.items words.new.items) }
-    ensures refused { IfErr result (RefusesPut (rows_of table.now) number name.now value.now words.old.items) }
+    ensures put { OnOk result (PutsValue (names_of table.now) name.now value.now words.old.items words.new.items) }
+    ensures refused { IfErr result (RefusesPut (names_of table.now) number name.now value.now words.old.items) }
 {
-    let Some(row) = row_of(table, name.as_bytes()) else {
+    let Some(row) = place_of_name(table, name.as_bytes()) else {
         return Err(QueryFault::Unknown(number));
     };
     if words[row].is_some() {
@@ -234,9 +236,9 @@ pub fn take_parameter(
     }
     match read_word(alloc, table[row].kind, value) {
         Ok(word) => words[row] = Some(word),
-        Err(WordFault::OutOfScope) => return Err(QueryFault::OutOfScope(number)),
-        Err(WordFault::Value) => return Err(QueryFault::Value(number)),
-        Err(WordFault::OutOfMemory) => return Err(QueryFault::OutOfMemory),
+        Err(ValueFault::OutOfScope) => return Err(QueryFault::OutOfScope(number)),
+        Err(ValueFault::Value) => return Err(QueryFault::Value(number)),
+        Err(ValueFault::OutOfMemory) => return Err(QueryFault::OutOfMemory),
     }
     Ok(())
 }
@@ -244,12 +246,12 @@ pub fn take_parameter(
 /// The words of a query string: the first wrong parameter decides.
 pub fn read_words(
     alloc: Global,
-    table: &[Row],
+    table: &[ParameterName],
     query: &[u8],
-) -> Result<Vec<Option<Word>>, QueryFault>
+) -> Result<Vec<Option<ParameterValue>>, QueryFault>
     requires { length (pairs_of query.now) ≤ 1000 }
-    ensures words { IfOk result (λ v. HasRead (rows_of table.now) (parameters_of query.now) (parameters_of query.now) [] v.items) }
-    ensures refused { IfErr result (RefusesWords (rows_of table.now) (parameters_of query.now)) }
+    ensures words { IfOk result (λ v. HasReadParameters (names_of table.now) (parameters_of query.now) (parameters_of query.now) [] v.items) }
+    ensures refused { IfErr result (RefusesParameters (names_of table.now) (parameters_of query.now)) }
 {
     let mut words = no_words(alloc, table.len())?;
     let mut number = 1u64;

@@ -1,22 +1,22 @@
 -- Worked examples of the definitions.
 use Rattle.std.proofs.Common.{◌≡◌, ℕ, ℤ, pos, true, false, List, [], ◌∷◌, Option, Some, None, codes, refl}
-use Rattle.epochs.specs.declared.kinds.Kind.TheVariants.{Net, Sta}
+use Rattle.epochs.specs.declared.kinds.LineKind.TheVariants.{Net, Sta}
 use Rattle.epochs.specs.declared.kinds.Head.TheVariants.{Says}
 use Rattle.epochs.specs.Fields.{code, words, time, end, number, optional}
-use Rattle.epochs.specs.Lines.{Entry, entry}
+use Rattle.epochs.specs.Lines.{LineValues, line_values}
 use Rattle.station_text.specs.Windows.{ends_before, ends_after}
 use Rattle.station_text.specs.Asked.{is_every, station_codes, total_stations}
 use Rattle.station_text.specs.Texts.{code_text, barred, column_text}
 
 -- a network from 100 on, two epochs of one of its stations, one of another before it, and a channel
-abbrev network : Entry
-network = entry (Says Net) (code (codes "IU") ∷ words (codes "GSN") ∷ time (pos 100) ∷ end None ∷ [])
+abbrev network : LineValues
+network = line_values (Says Net) (code (codes "IU") ∷ words (codes "GSN") ∷ time (pos 100) ∷ end None ∷ [])
 
-abbrev station : List ℕ → ℤ → Option ℤ → Entry
+abbrev station : List ℕ → ℤ → Option ℤ → LineValues
 station name start stop =
-    entry (Says Sta) (code (codes "IU") ∷ code name ∷ number (pos 0) ∷ number (pos 0) ∷ number (pos 0) ∷ words [] ∷ time start ∷ end stop ∷ [])
+    line_values (Says Sta) (code (codes "IU") ∷ code name ∷ number (pos 0) ∷ number (pos 0) ∷ number (pos 0) ∷ words [] ∷ time start ∷ end stop ∷ [])
 
-abbrev live : List Entry
+abbrev live : List LineValues
 live =
     network
     ∷ station (codes "ANMO") (pos 100) (Some (pos 200))

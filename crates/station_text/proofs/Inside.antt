@@ -2,13 +2,13 @@
 use Rattle.std.proofs.Common.{◌≡◌, Bool, false, ◌||◌, List, map, Result, Ok, Err, OnOk, sym, ap, ◌∙◌}
 use Rattle.std.specs.List.{list_any}
 use Rattle.epochs.specs.declared.line.Line.{Line}
-use Rattle.epochs.specs.Lines.{Entry}
-use Rattle.epochs.specs.Views.{seen}
+use Rattle.epochs.specs.Lines.{LineValues}
+use Rattle.epochs.specs.Views.{values_of_line}
 use Rattle.epochs.proofs.FieldSteps.{list_any-map}
 
 -- a test of some line of a slice is one of what these lines say
-pub any_seen : (test : Entry → Bool) (lines : List Line) (entries : List Entry) (result : Bool) → map seen lines ≡ entries → result ≡ list_any (λ line. test (seen line)) lines → result ≡ list_any test entries
-any_seen test lines entries result same is = is ∙ sym (list_any-map test seen lines) ∙ ap (list_any test) same
+pub any_seen : (test : LineValues → Bool) (lines : List Line) (entries : List LineValues) (result : Bool) → map values_of_line lines ≡ entries → result ≡ list_any (λ line. test (values_of_line line)) lines → result ≡ list_any test entries
+any_seen test lines entries result same is = is ∙ sym (list_any-map test values_of_line lines) ∙ ap (list_any test) same
 
 -- where the first of two tests fails, the second decides
 pub or_second : (first second result : Bool) → first ≡ false → result ≡ second → result ≡ (first || second)

@@ -13,7 +13,7 @@ use Rattle.channel_globs.specs.declared.nslc.Part.{Part}
 use Rattle.channel_globs.specs.declared.nslc.Part.TheVariants.{Location}
 use Rattle.epochs.specs.Kinds.{Text}
 use Rattle.epochs.specs.Fields.{is_code_text}
-use Rattle.epochs.specs.Entries.{is_code, is_blank_code, IfThere}
+use Rattle.epochs.specs.Spellable.{is_code, is_blank_code, IfThere}
 use Rattle.station_text.specs.Columns.{IsWritableEnd}
 
 low : (c : ℕ) → is_ascii_alphanumeric c ≡ true → c < 128

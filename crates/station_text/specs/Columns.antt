@@ -11,21 +11,21 @@ use Rattle.station_text.specs.declared.columns.Column.TheVariants.{Code, Words, 
 use Rattle.station_text.specs.Texts.{text_or_none, code_text}
 
 -- the moment of an end
-abbrev pub end_seen : Option Moment → Option ℤ
-end_seen stop = option_map (λ moment. moment.micros) stop
+abbrev pub optional_micros : Option Moment → Option ℤ
+optional_micros stop = option_map (λ moment. moment.micros) stop
 
-abbrev pub number_seen : Option Decimal → Option ℤ
-number_seen number = option_map (λ n. n.millionths) number
+abbrev pub optional_millionths : Option Decimal → Option ℤ
+optional_millionths number = option_map (λ n. n.millionths) number
 
 -- what stands in a column
-abbrev pub text_seen : Column → Text
-text_seen (Code c) = code_text c
-text_seen (Words t) = t.now
-text_seen (Start moment) = moment_text moment.micros
-text_seen (End stop) = text_or_none moment_text (end_seen stop)
-text_seen (Number n) = decimal_text n.millionths
-text_seen (Optional n) = text_or_none decimal_text (number_seen n)
-text_seen (Count n) = decimal n
+abbrev pub column_text_of : Column → Text
+column_text_of (Code c) = code_text c
+column_text_of (Words t) = t.now
+column_text_of (Start moment) = moment_text moment.micros
+column_text_of (End stop) = text_or_none moment_text (optional_micros stop)
+column_text_of (Number n) = decimal_text n.millionths
+column_text_of (Optional n) = text_or_none decimal_text (optional_millionths n)
+column_text_of (Count n) = decimal n
 
 abbrev pub IsWritableEnd : Option ℤ → Type 0
 IsWritableEnd None = ⊤
@@ -35,5 +35,5 @@ IsWritableEnd (Some micros) = IsWritable micros
 abbrev pub IsPrintable : Column → Type 0
 IsPrintable (Code c) = IsAscii c
 IsPrintable (Start moment) = IsWritable moment.micros
-IsPrintable (End stop) = IsWritableEnd (end_seen stop)
+IsPrintable (End stop) = IsWritableEnd (optional_micros stop)
 IsPrintable _ = ⊤

@@ -7,12 +7,12 @@ use Rattle.exact_time.specs.Decimals.{decimal_text}
 use Rattle.channel_globs.specs.PatternText.{space}
 use Rattle.query_words.specs.declared.station.Level.{Level}
 use Rattle.query_words.specs.declared.station.Level.TheVariants.{Network, Station, Channel}
-use Rattle.epochs.specs.declared.kinds.Kind.TheVariants.{Net}
+use Rattle.epochs.specs.declared.kinds.LineKind.TheVariants.{Net}
 use Rattle.epochs.specs.declared.kinds.Head.{Head}
 use Rattle.epochs.specs.declared.kinds.Head.TheVariants.{Says}
 use Rattle.epochs.specs.Kinds.{Text}
 use Rattle.epochs.specs.Fields.{Value, code, words, time, end, number, optional, patterns, roles, bar}
-use Rattle.epochs.specs.Lines.{Entry}
+use Rattle.epochs.specs.Lines.{LineValues}
 use Rattle.station_text.specs.Asked.{total_stations}
 
 abbrev pub line_feed : ℕ
@@ -48,14 +48,14 @@ barred (text ∷ texts) = text ++ behind_bars texts
 
 -- The columns of a line are its values in order; the line of a network has one more, how many stations it
 -- has.
-abbrev pub further_columns : List Entry → Entry → List Text
+abbrev pub further_columns : List LineValues → LineValues → List Text
 further_columns live e = behind e.head
   where
     behind : Head → List Text
     behind (Says Net) = decimal (total_stations live e) ∷ []
     behind _ = []
 
-abbrev pub line_text : List Entry → Entry → Text
+abbrev pub line_text : List LineValues → LineValues → Text
 line_text live e = barred (map column_text e.values ++ further_columns live e) ++ line_feed ∷ []
 
 abbrev pub header_text : Level → Text
@@ -65,5 +65,5 @@ header_text Channel =
     codes "#Network|Station|Location|Channel|Latitude|Longitude|Elevation|Depth|Azimuth|Dip|SensorDescription|Scale|ScaleFreq|ScaleUnits|SampleRate|StartTime|EndTime\n"
 
 -- the header line, and then a line for each of these
-abbrev pub text_of : Level → List Entry → List Entry → Text
-text_of level live lines = header_text level ++ flat_map (line_text live) lines
+abbrev pub answer_text : Level → List LineValues → List LineValues → Text
+answer_text level live lines = header_text level ++ flat_map (line_text live) lines

@@ -6,7 +6,7 @@ use Rattle.query_words.specs.declared.station.Area.{Area}
 use Rattle.query_words.specs.declared.station.Limits2.{Limits2}
 use Rattle.query_words.specs.declared.station.StationQuery.{StationQuery}
 use Rattle.epochs.specs.Fields.{Value, number}
-use Rattle.epochs.specs.Lines.{Entry, end_of}
+use Rattle.epochs.specs.Lines.{LineValues, end_of}
 use Rattle.epoch_rules.specs.Rules.{epoch_start}
 
 -- an end is at a moment or after it, before it, after it; an absent end is after every moment
@@ -29,17 +29,17 @@ meets s start stop =
     holds (λ t. int_le start t.micros) s.end && holds (λ t. ends_from t.micros stop) s.start
 
 -- it passes the four comparisons of the query, each of which is strict
-abbrev pub passes : StationQuery → ℤ → Option ℤ → Bool
-passes q start stop =
+abbrev pub passes_comparisons : StationQuery → ℤ → Option ℤ → Bool
+passes_comparisons q start stop =
     holds (λ t. int_lt start t.micros) q.start_before && holds (λ t. int_lt t.micros start) q.start_after
     && holds (λ t. ends_before t.micros stop) q.end_before && holds (λ t. ends_after t.micros stop) q.end_after
 
 -- the epoch of a line
-abbrev pub line_meets : Selection → Entry → Bool
+abbrev pub line_meets : Selection → LineValues → Bool
 line_meets s e = meets s (epoch_start e) (end_of e.values)
 
-abbrev pub line_passes : StationQuery → Entry → Bool
-line_passes q e = passes q (epoch_start e) (end_of e.values)
+abbrev pub line_passes : StationQuery → LineValues → Bool
+line_passes q e = passes_comparisons q (epoch_start e) (end_of e.values)
 
 -- the number is in its limits, these included
 abbrev pub is_within_limits : Limits2 → ℤ → Bool
@@ -52,18 +52,18 @@ numbers_in [] = []
 numbers_in (number n ∷ values) = n ∷ numbers_in values
 numbers_in (_ ∷ values) = numbers_in values
 
-abbrev pub number_at : ℕ → List ℤ → ℤ
-number_at n [] = pos 0
-number_at zero (x ∷ xs) = x
-number_at (suc n) (x ∷ xs) = number_at n xs
+abbrev pub number_among : ℕ → List ℤ → ℤ
+number_among n [] = pos 0
+number_among zero (x ∷ xs) = x
+number_among (suc n) (x ∷ xs) = number_among n xs
 
 abbrev pub is_place_in : Area → ℤ → ℤ → Bool
 is_place_in area latitude longitude =
     is_within_limits area.latitude latitude && is_within_limits area.longitude longitude
 
 -- the place of a line is in the area
-abbrev pub is_in_area : Area → Entry → Bool
-is_in_area area e = is_place_in area (number_at 0 (numbers_in e.values)) (number_at 1 (numbers_in e.values))
+abbrev pub is_in_area : Area → LineValues → Bool
+is_in_area area e = is_place_in area (number_among 0 (numbers_in e.values)) (number_among 1 (numbers_in e.values))
 
 abbrev pub is_absent : {T : Type 0} → Option T → Bool
 is_absent None = true

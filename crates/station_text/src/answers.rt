@@ -1,11 +1,11 @@
 //! The text that a query for stations is answered with.
 ghost use Rattle.std.specs.Prelude.{◌≡◌, map, IfOk, IfErr, Ok};
 ghost use Rattle.station_text.specs.Asked.{asked_lines};
-ghost use Rattle.station_text.specs.Answers.{answer_of, RefusesAs};
+ghost use Rattle.station_text.specs.Answers.{text_answer_of, RefusesTextAs};
 ghost use Rattle.station_text.specs.Lines.{line_at};
 
-use crate::asked::is_asked;
-use crate::lines::text_of;
+use crate::asked::is_line_asked;
+use crate::lines::answer_text;
 use epoch_catalog::Catalog;
 use epochs::Line;
 use exact_time::{Many, OutOfMemory, Text, TextRefusal};
@@ -22,7 +22,7 @@ fn asked_lines<'a>(
 {
     let mut asked = Many::new(alloc);
     'lines: for line in catalog.lines() {
-        if is_asked(catalog, query, line) {
+        if is_line_asked(catalog, query, line) {
             asked.push(line)?;
         }
     }
@@ -39,8 +39,8 @@ pub fn answer(
     query: &StationQuery,
     max_lines: u64,
 ) -> Result<Text, TextRefusal>
-    ensures text { IfOk result (λ text. answer_of query.now max_lines catalog.now ≡ Ok text) }
-    ensures refused { IfErr result (RefusesAs (answer_of query.now max_lines catalog.now)) }
+    ensures text { IfOk result (λ text. text_answer_of query.now max_lines catalog.now ≡ Ok text) }
+    ensures refused { IfErr result (RefusesTextAs (text_answer_of query.now max_lines catalog.now)) }
 {
     let asked = asked_lines(alloc, catalog, query)?;
     if asked.is_empty() {
@@ -50,5 +50,5 @@ pub fn answer(
     if lines > max_lines {
         return Err(TextRefusal::TooLarge(lines));
     }
-    Ok(text_of(alloc, catalog, query.level, asked.as_slice())?)
+    Ok(answer_text(alloc, catalog, query.level, asked.as_slice())?)
 }

@@ -5,7 +5,7 @@ ghost use Rattle.std.specs.Str.{IsAscii};
 ghost use Rattle.exact_time.specs.Written.{moment_text};
 ghost use Rattle.exact_time.specs.Decimals.{decimal_text};
 ghost use Rattle.station_text.specs.Texts.{line_feed, text_or_none, code_text, barred, behind_bars};
-ghost use Rattle.station_text.specs.Columns.{end_seen, number_seen, text_seen, IsWritableEnd, IsPrintable};
+ghost use Rattle.station_text.specs.Columns.{optional_micros, optional_millionths, column_text_of, IsWritableEnd, IsPrintable};
 
 use channel_globs::Code;
 use exact_time::{Decimal, Moment, OutOfMemory, Text};
@@ -37,8 +37,8 @@ fn write_code(out: &mut Text, code: Code) -> Result<(), OutOfMemory>
 
 // Appends an end, if there is one.
 fn write_end(out: &mut Text, end: Option<Moment>) -> Result<(), OutOfMemory>
-    requires { IsWritableEnd (end_seen end) }
-    ensures { OnOk result (out.new ≡ out.old ++ text_or_none moment_text (end_seen end)) }
+    requires { IsWritableEnd (optional_micros end) }
+    ensures { OnOk result (out.new ≡ out.old ++ text_or_none moment_text (optional_micros end)) }
 {
     match end {
         None => Ok(()),
@@ -48,7 +48,7 @@ fn write_end(out: &mut Text, end: Option<Moment>) -> Result<(), OutOfMemory>
 
 // Appends a number, if there is one.
 fn write_optional(out: &mut Text, number: Option<Decimal>) -> Result<(), OutOfMemory>
-    ensures { OnOk result (out.new ≡ out.old ++ text_or_none decimal_text (number_seen number)) }
+    ensures { OnOk result (out.new ≡ out.old ++ text_or_none decimal_text (optional_millionths number)) }
 {
     match number {
         None => Ok(()),
@@ -67,7 +67,7 @@ fn write_count(alloc: Global, out: &mut Text, count: u64) -> Result<(), OutOfMem
 // Appends what stands in a column.
 fn write_column(alloc: Global, out: &mut Text, column: &Column) -> Result<(), OutOfMemory>
     requires { IsPrintable column.now }
-    ensures { OnOk result (out.new ≡ out.old ++ text_seen column.now) }
+    ensures { OnOk result (out.new ≡ out.old ++ column_text_of column.now) }
 {
     match column {
         Column::Code(code) => write_code(out, *code),
@@ -83,7 +83,7 @@ fn write_column(alloc: Global, out: &mut Text, column: &Column) -> Result<(), Ou
 // Appends columns, each behind a bar.
 fn write_behind_bars(alloc: Global, out: &mut Text, columns: &[Column]) -> Result<(), OutOfMemory>
     requires { AllByRecursion IsPrintable columns.now }
-    ensures { OnOk result (out.new ≡ out.old ++ behind_bars (map text_seen columns.now)) }
+    ensures { OnOk result (out.new ≡ out.old ++ behind_bars (map column_text_of columns.now)) }
 {
     'columns: for column in columns {
         out.push("|")?;
@@ -96,7 +96,7 @@ fn write_behind_bars(alloc: Global, out: &mut Text, columns: &[Column]) -> Resul
 /// appended.
 pub fn write_columns(alloc: Global, out: &mut Text, columns: &[Column]) -> Result<(), OutOfMemory>
     requires { AllByRecursion IsPrintable columns.now }
-    ensures { OnOk result (out.new ≡ out.old ++ barred (map text_seen columns.now) ++ line_feed ∷ []) }
+    ensures { OnOk result (out.new ≡ out.old ++ barred (map column_text_of columns.now) ++ line_feed ∷ []) }
 {
     match columns {
         [] => {}

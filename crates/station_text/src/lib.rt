@@ -1,7 +1,7 @@
 //! Text answers to queries for networks, stations and channels (FDSN Web Service Specifications 1.2,
 //! station, format=text).
 //!
-//! What the crates above use: [`answer`] is `answer_of` of `specs/Answers.antt`: the header line and the
+//! What the crates above use: [`answer`] is `text_answer_of` of `specs/Answers.antt`: the header line and the
 //! lines of the live epochs that the query asks for, each printed in its columns, or Empty exactly where
 //! none is asked for, or TooLarge(n) exactly where these are n lines and more than the limit.
 //!

@@ -1,14 +1,14 @@
 //! The lines of the text answers.
 ghost use Rattle.std.specs.Prelude.{◌≡◌, [], ◌++◌, List, map, true, IfOk, OnOk};
 ghost use Rattle.std.specs.List.{AllByRecursion, filter_map};
-ghost use Rattle.epochs.specs.Lines.{Entry};
-ghost use Rattle.epochs.specs.Views.{seen};
+ghost use Rattle.epochs.specs.Lines.{LineValues};
+ghost use Rattle.epochs.specs.Views.{values_of_line};
 ghost use Rattle.epochs.specs.declared.line.Line.TheVariants.{Net, Sta, Cha};
 ghost use Rattle.epoch_rules.specs.Rules.{is_epoch};
 ghost use Rattle.list_laws.specs.InOrder.{in_order};
 ghost use Rattle.epoch_rules.specs.KeyOrder.{text_cmp};
 ghost use Rattle.station_text.specs.Asked.{station_within, total_stations};
-ghost use Rattle.station_text.specs.Texts.{header_text, line_text, text_of};
+ghost use Rattle.station_text.specs.Texts.{header_text, line_text, answer_text};
 ghost use Rattle.station_text.specs.Lines.{line_at};
 
 use crate::asked::{network_epoch, station_epoch};
@@ -23,7 +23,7 @@ use std::collections::BTreeSet;
 
 // The code of the station whose epoch the line is, if that is within the network's.
 fn station_within(network: &NetworkEpoch, line: &Line) -> Option<Code>
-    ensures { result ≡ station_within (seen (Net network.now)) (seen line.now) }
+    ensures { result ≡ station_within (values_of_line (Net network.now)) (values_of_line line.now) }
 {
     match line {
         Line::Sta(station) => code_within(network, station),
@@ -32,7 +32,7 @@ fn station_within(network: &NetworkEpoch, line: &Line) -> Option<Code>
 }
 
 fn code_within(network: &NetworkEpoch, station: &StationEpoch) -> Option<Code>
-    ensures { result ≡ station_within (seen (Net network.now)) (seen (Sta station.now)) }
+    ensures { result ≡ station_within (values_of_line (Net network.now)) (values_of_line (Sta station.now)) }
 {
     if network_epoch(network).contains(&station_epoch(station)) {
         Some(station.station)
@@ -47,7 +47,7 @@ fn codes_within(
     network: &NetworkEpoch,
     lines: &[Line],
 ) -> Result<BTreeSet<Code>, OutOfMemory>
-    ensures { IfOk result (λ codes. codes.keys ≡ in_order text_cmp [] (filter_map (station_within (seen (Net network.now))) (map seen lines.now))) }
+    ensures { IfOk result (λ codes. codes.keys ≡ in_order text_cmp [] (filter_map (station_within (values_of_line (Net network.now))) (map values_of_line lines.now))) }
 {
     let mut codes = BTreeSet::new(alloc);
     'lines: for line in lines {
@@ -64,7 +64,7 @@ fn total_stations(
     catalog: &Catalog,
     network: &NetworkEpoch,
 ) -> Result<u64, OutOfMemory>
-    ensures { IfOk result (λ total. total ≡ total_stations catalog.now (seen (Net network.now))) }
+    ensures { IfOk result (λ total. total ≡ total_stations catalog.now (values_of_line (Net network.now))) }
 {
     let family = Family::StationsOf(network.network);
     let codes = codes_within(alloc, network, catalog.family(&family))?;
@@ -77,7 +77,7 @@ fn write_network(
     catalog: &Catalog,
     network: &NetworkEpoch,
 ) -> Result<(), OutOfMemory>
-    ensures { OnOk result (out.new ≡ out.old ++ line_text catalog.now (seen (Net network.now))) }
+    ensures { OnOk result (out.new ≡ out.old ++ line_text catalog.now (values_of_line (Net network.now))) }
 {
     let total = total_stations(alloc, catalog, network)?;
     write_columns(
@@ -94,7 +94,7 @@ fn write_network(
 }
 
 fn write_station(alloc: Global, out: &mut Text, station: &StationEpoch) -> Result<(), OutOfMemory>
-    ensures { OnOk result ((live : List Entry) → out.new ≡ out.old ++ line_text live (seen (Sta station.now))) }
+    ensures { OnOk result ((live : List LineValues) → out.new ≡ out.old ++ line_text live (values_of_line (Sta station.now))) }
 {
     write_columns(
         alloc,
@@ -113,7 +113,7 @@ fn write_station(alloc: Global, out: &mut Text, station: &StationEpoch) -> Resul
 }
 
 fn write_channel(alloc: Global, out: &mut Text, channel: &ChannelEpoch) -> Result<(), OutOfMemory>
-    ensures { OnOk result ((live : List Entry) → out.new ≡ out.old ++ line_text live (seen (Cha channel.now))) }
+    ensures { OnOk result ((live : List LineValues) → out.new ≡ out.old ++ line_text live (values_of_line (Cha channel.now))) }
 {
     write_columns(
         alloc,
@@ -147,8 +147,8 @@ fn write_line(
     catalog: &Catalog,
     line: &Line,
 ) -> Result<(), OutOfMemory>
-    requires { is_epoch (seen line.now) ≡ true }
-    ensures { OnOk result (out.new ≡ out.old ++ line_text catalog.now (seen line.now)) }
+    requires { is_epoch (values_of_line line.now) ≡ true }
+    ensures { OnOk result (out.new ≡ out.old ++ line_text catalog.now (values_of_line line.now)) }
 {
     match line {
         Line::Net(network) => write_network(alloc, out, catalog, network),
@@ -174,14 +174,14 @@ fn header(level: Level) -> &'static str
 }
 
 /// The header line, and then a line for each of these epochs.
-pub fn text_of(
+pub fn answer_text(
     alloc: Global,
     catalog: &Catalog,
     level: Level,
     lines: &[&Line],
 ) -> Result<Text, OutOfMemory>
     requires { AllByRecursion (λ line. is_epoch (line_at line) ≡ true) lines.now }
-    ensures { IfOk result (λ text. text ≡ text_of level catalog.now (map line_at lines.now)) }
+    ensures { IfOk result (λ text. text ≡ answer_text level catalog.now (map line_at lines.now)) }
 {
     let mut text = Text::new(alloc);
     text.push(header(level))?;

@@ -2,8 +2,8 @@
 ghost use Rattle.std.specs.Prelude.{◌≡◌, ◌&&◌, int_le, int_lt};
 ghost use Rattle.dataselect.specs.Query.{holds};
 ghost use Rattle.epoch_rules.specs.Rules.{ends_by};
-ghost use Rattle.station_text.specs.Windows.{ends_from, ends_before, ends_after, meets, passes, is_within_limits, is_place_in, is_everywhere};
-ghost use Rattle.station_text.specs.Columns.{end_seen};
+ghost use Rattle.station_text.specs.Windows.{ends_from, ends_before, ends_after, meets, passes_comparisons, is_within_limits, is_place_in, is_everywhere};
+ghost use Rattle.station_text.specs.Columns.{optional_micros};
 
 use dataselect::Selection;
 use exact_time::{Decimal, Moment};
@@ -46,7 +46,7 @@ fn is_after(moment: Moment, limit: Option<Moment>) -> bool
 
 // Whether an end is at a limit or after it.
 fn ends_from(end: Option<Moment>, limit: Option<Moment>) -> bool
-    ensures { result ≡ holds (λ t. ends_from t.micros (end_seen end)) limit }
+    ensures { result ≡ holds (λ t. ends_from t.micros (optional_micros end)) limit }
 {
     match (limit, end) {
         (Some(limit), Some(end)) => limit.micros <= end.micros,
@@ -55,7 +55,7 @@ fn ends_from(end: Option<Moment>, limit: Option<Moment>) -> bool
 }
 
 fn ends_before(end: Option<Moment>, limit: Option<Moment>) -> bool
-    ensures { result ≡ holds (λ t. ends_before t.micros (end_seen end)) limit }
+    ensures { result ≡ holds (λ t. ends_before t.micros (optional_micros end)) limit }
 {
     match (limit, end) {
         (None, _) => true,
@@ -65,7 +65,7 @@ fn ends_before(end: Option<Moment>, limit: Option<Moment>) -> bool
 }
 
 fn ends_after(end: Option<Moment>, limit: Option<Moment>) -> bool
-    ensures { result ≡ holds (λ t. ends_after t.micros (end_seen end)) limit }
+    ensures { result ≡ holds (λ t. ends_after t.micros (optional_micros end)) limit }
 {
     match (limit, end) {
         (Some(limit), Some(end)) => limit.micros < end.micros,
@@ -75,7 +75,7 @@ fn ends_after(end: Option<Moment>, limit: Option<Moment>) -> bool
 
 // Whether an end is no later than another.
 fn ends_by(end: Option<Moment>, other: Option<Moment>) -> bool
-    ensures { result ≡ ends_by (end_seen end) (end_seen other) }
+    ensures { result ≡ ends_by (optional_micros end) (optional_micros other) }
 {
     match (end, other) {
         (_, None) => true,
@@ -87,14 +87,14 @@ fn ends_by(end: Option<Moment>, other: Option<Moment>) -> bool
 impl Epoch {
     /// Whether the epoch meets the window of a selection.
     pub fn meets(&self, selection: &Selection) -> bool
-        ensures { result ≡ meets selection.now self.now.start.micros (end_seen self.now.end) }
+        ensures { result ≡ meets selection.now self.now.start.micros (optional_micros self.now.end) }
     {
         is_by(self.start, selection.end) && ends_from(self.end, selection.start)
     }
 
     /// Whether the epoch passes the four comparisons of the query.
-    pub fn passes(&self, query: &StationQuery) -> bool
-        ensures { result ≡ passes query.now self.now.start.micros (end_seen self.now.end) }
+    pub fn passes_comparisons(&self, query: &StationQuery) -> bool
+        ensures { result ≡ passes_comparisons query.now self.now.start.micros (optional_micros self.now.end) }
     {
         is_before(self.start, query.start_before)
             && is_after(self.start, query.start_after)
@@ -104,7 +104,7 @@ impl Epoch {
 
     /// Whether the epoch starts no later than another and ends no earlier.
     pub fn contains(&self, inner: &Epoch) -> bool
-        ensures { result ≡ (int_le self.now.start.micros inner.now.start.micros && ends_by (end_seen inner.now.end) (end_seen self.now.end)) }
+        ensures { result ≡ (int_le self.now.start.micros inner.now.start.micros && ends_by (optional_micros inner.now.end) (optional_micros self.now.end)) }
     {
         self.start.micros <= inner.start.micros && ends_by(inner.end, self.end)
     }

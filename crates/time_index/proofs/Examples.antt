@@ -6,14 +6,14 @@ use Rattle.std.specs.declared.cmp.Ordering.TheVariants.{Less, Greater}
 use Rattle.exact_time.specs.declared.ratio.Ratio.{Ratio}
 use Rattle.channel_globs.specs.declared.nslc.Nslc.{Nslc}
 use Rattle.mseed_header.proofs.Examples.{anmo_header, anmo_row}
-use Rattle.dataselect.specs.Order.{name_cmp}
+use Rattle.channel_globs.specs.Names.{name_cmp}
 use Rattle.dataselect.specs.declared.query.Selection.{Selection}
 use Rattle.time_index.specs.declared.spot.Spot.{Spot}
 use Rattle.time_index.specs.declared.channels.Channel.{Channel}
 use Rattle.time_index.specs.Doubles.{has_image_at, is_twin}
-use Rattle.time_index.specs.Index.{stands, LastsAtMost, IsIndex}
+use Rattle.time_index.specs.Index.{stands, LastsAtMost, IsChannelIndex}
 use Rattle.time_index.specs.Spots.{spot_cmp, spot_at, micros_lasted, has}
-use Rattle.time_index.specs.Windows.{first_at, lower_of, upper_of, places_between, places_at, candidates}
+use Rattle.time_index.specs.Windows.{first_spot_at, lower_of, upper_of, places_between, places_at, candidates}
 use Rattle.time_index.proofs.Sets.{itself}
 
 -- 100 samples at 20 Hz: the last is 99 periods of 0.05 s after the first
@@ -48,14 +48,14 @@ fingerprint_first : spot_cmp (spot 5 3 0) (spot 5 2 9) ≡ Greater
 fingerprint_first = refl
 
 -- rows that reach microsecond 10, and last 4 microseconds at most, start at 6 or later
-lower : lower_of (Some (record { micros = pos 10 })) 4 ≡ Some (first_at (pos 6))
+lower : lower_of (Some (record { micros = pos 10 })) 4 ≡ Some (first_spot_at (pos 6))
 lower = refl
 
 -- no start is as low as this
 lowest : lower_of (Some (record { micros = negsuc (2 ^ 63 - 1) })) 1 ≡ None
 lowest = refl
 
-upper : upper_of (Some (record { micros = pos 10 })) ≡ Some (first_at (pos 11))
+upper : upper_of (Some (record { micros = pos 10 })) ≡ Some (first_spot_at (pos 11))
 upper = refl
 
 abbrev channel : Channel
@@ -101,7 +101,7 @@ not_own : stands (anmo_row ∷ []) (record anmo { channel = codes "LHZ" }) (spot
 not_own = refl
 
 -- where there are no channels, there are no rows
-none : (channels : BTreeMap Nslc Channel) → ((name : Nslc) → get name_cmp channels name ≡ None) → IsIndex [] channels
+none : (channels : BTreeMap Nslc Channel) → ((name : Nslc) → get name_cmp channels name ≡ None) → IsChannelIndex [] channels
 none channels without = record { spots = λ name at. ap (λ o. has o at) (without name); longest = λ place row h. absurd (cc) }
 
 -- the row at place 0 has its own bytes; no row of that channel starts at microsecond 5

@@ -17,7 +17,7 @@ use Rattle.dataselect.specs.Order.{rank_cmp, rank_at}
 use Rattle.dataselect.specs.Query.{holds, is_asked, is_selected}
 use Rattle.dataselect.specs.Chosen.{passes, ranks_from, ranks_chosen}
 use Rattle.dataselect.proofs.Ranks.{ranks_total, exact_ranks}
-use Rattle.time_index.specs.Windows.{is_among, Cover, rank_if, ranks_at}
+use Rattle.time_index.specs.Windows.{is_place_among, Cover, rank_if, ranks_at}
 
 -- one more rank goes to its place, or there is none
 pub rank_in : (test : Row → Bool) (p : ℕ) (rows : List Row) (row : Row) (done more : List Rank) → slice_get rows p ≡ Some row → test row ≡ true → more ≡ insert_key rank_cmp done (rank_at p row)
@@ -68,10 +68,10 @@ module _ (test : Row → Bool) (rows : List Row) (q : Rank) where
             ] refl k
       ] refl h
 
-  to_at : IsRankFrom test 0 rows q → (ps : List ℕ) → is_among q.index ps ≡ true → has_rank q (ranks_at test rows ps) ≡ true
+  to_at : IsRankFrom test 0 rows q → (ps : List ℕ) → is_place_among q.index ps ≡ true → has_rank q (ranks_at test rows ps) ≡ true
   to_at c [] h = absurd (true≢false (sym h))
   to_at c (p ∷ ps) h =
-      elim (p == q.index) as (λ b. (p == q.index) ≡ b → (b || is_among q.index ps) ≡ true → has_rank q (rank_if test p (slice_get rows p) (ranks_at test rows ps)) ≡ true) [
+      elim (p == q.index) as (λ b. (p == q.index) ≡ b → (b || is_place_among q.index ps) ≡ true → has_rank q (rank_if test p (slice_get rows p) (ranks_at test rows ps)) ≡ true) [
         | true ↦ λ e _.
             let here : p ≡ c.n = eq_from p q.index e ∙ c.index ∙ zero-add c.n in
             ap (λ o. has_rank q (rank_if test p o (ranks_at test rows ps))) (ap (slice_get rows) here ∙ c.at)
@@ -144,4 +144,4 @@ found_all seen query rows ps cover =
     (λ h. let c = from_at (passes seen query) rows q ps h in to_from seen query q 0 c.n rows c.row c.at c.passes_is c.is)
     (λ h.
     let c = from_from seen query q 0 rows h in
-    to_at (passes seen query) rows q c ps (ap (λ (k : ℕ). is_among k ps) (c.index ∙ zero-add c.n) ∙ cover c.n c.row c.at (selected seen query c.row c.passes_is))))
+    to_at (passes seen query) rows q c ps (ap (λ (k : ℕ). is_place_among k ps) (c.index ∙ zero-add c.n) ∙ cover c.n c.row c.at (selected seen query c.row c.passes_is))))

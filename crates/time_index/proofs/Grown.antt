@@ -9,11 +9,11 @@ use Rattle.std.proofs.lemmas.Option.{slice_get_past}
 use Rattle.list_laws.proofs.Places.{get_before, get_last}
 use Rattle.channel_globs.specs.declared.nslc.Nslc.{Nslc}
 use Rattle.mseed_header.specs.declared.row.Row.{Row}
-use Rattle.dataselect.proofs.Ranks.{names_total}
+use Rattle.channel_globs.proofs.Names.{names_total}
 use Rattle.time_index.specs.declared.spot.Spot.{Spot}
 use Rattle.time_index.specs.declared.channels.Channel.{Channel}
 use Rattle.time_index.specs.Spots.{spot_cmp, spot_at, micros_lasted, is_same, has_spot, longest_of}
-use Rattle.time_index.specs.Index.{is_there, stands, LastsAtMost, IsIndex}
+use Rattle.time_index.specs.Index.{is_there, stands, LastsAtMost, IsChannelIndex}
 use Rattle.time_index.proofs.Lasts.{lasts_at_most, lasts_longer}
 use Rattle.time_index.proofs.Sets.{same_spot}
 
@@ -74,10 +74,10 @@ grows false a x = omega arith
 covers : (a x : ℕ) (b : Bool) → b ≡ true → x ≤ cond b (max a x) a
 covers a x b e = rw e (omega arith)
 
-pub index_added : (rows : List Row) (m n : BTreeMap Nslc Channel) (row : Row) → IsIndex rows m
+pub index_added : (rows : List Row) (m n : BTreeMap Nslc Channel) (row : Row) → IsChannelIndex rows m
     → ((name : Nslc) (spot : Spot) → has_spot n name spot ≡ ((is_same row.header.name name && eq_by_cmp spot_cmp spot (spot_at (length rows) row)) || has_spot m name spot))
     → ((name : Nslc) → longest_of n name ≡ cond (is_same row.header.name name) (max (longest_of m name) (micros_lasted row.header)) (longest_of m name))
-    → IsIndex (rows ++ row ∷ []) n
+    → IsChannelIndex (rows ++ row ∷ []) n
 index_added rows m n row index spots longest = record {
   spots = λ name spot.
       spots name spot
@@ -99,8 +99,8 @@ index_added rows m n row index spots longest = record {
   ];
 }
 
-pub index_same : (rows : List Row) (m n : BTreeMap Nslc Channel) → IsIndex rows m → ((name : Nslc) (spot : Spot) → has_spot n name spot ≡ has_spot m name spot) → ((name : Nslc) → longest_of n name ≡ longest_of m name)
-    → IsIndex rows n
+pub index_same : (rows : List Row) (m n : BTreeMap Nslc Channel) → IsChannelIndex rows m → ((name : Nslc) (spot : Spot) → has_spot n name spot ≡ has_spot m name spot) → ((name : Nslc) → longest_of n name ≡ longest_of m name)
+    → IsChannelIndex rows n
 index_same rows m n index spots longest = record {
   spots = λ name spot. spots name spot ∙ index.spots name spot;
   longest = λ place r h. rw (longest r.header.name) (index.longest place r h);

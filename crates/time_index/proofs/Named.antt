@@ -4,8 +4,8 @@ use Rattle.std.specs.Ordering.{eq_by_cmp}
 use Rattle.std.specs.BTreeMap.{BTreeMap, get}
 use Rattle.std.proofs.lemmas.Map.Views.{tells_apart}
 use Rattle.channel_globs.specs.declared.nslc.Nslc.{Nslc}
-use Rattle.dataselect.specs.Order.{name_cmp}
-use Rattle.dataselect.proofs.Ranks.{exact_names}
+use Rattle.channel_globs.specs.Names.{name_cmp}
+use Rattle.channel_globs.proofs.Names.{exact_names}
 use Rattle.time_index.specs.declared.spot.Spot.{Spot}
 use Rattle.time_index.specs.declared.channels.Channel.{Channel}
 use Rattle.time_index.specs.Spots.{spot_cmp, is_same, has, longest_in, has_spot, longest_of}

@@ -17,12 +17,12 @@ use Rattle.mseed_header.specs.Header.{HasHeader, IsRecord}
 use Rattle.mseed_header.specs.declared.header.Header.{Header}
 use Rattle.mseed_header.specs.declared.row.Row.{Row}
 use Rattle.dataselect.specs.Rows.{has_image}
-use Rattle.dataselect.specs.Order.{name_cmp}
-use Rattle.dataselect.proofs.Ranks.{names_total}
+use Rattle.channel_globs.specs.Names.{name_cmp}
+use Rattle.channel_globs.proofs.Names.{names_total}
 use Rattle.time_index.specs.declared.spot.Spot.{Spot}
 use Rattle.time_index.specs.declared.channels.Channel.{Channel}
 use Rattle.time_index.specs.Doubles.{has_image_or, has_image_at, first_twin, is_twin}
-use Rattle.time_index.specs.Index.{is_there, IsIndex}
+use Rattle.time_index.specs.Index.{is_there, IsChannelIndex}
 use Rattle.time_index.specs.Spots.{fingerprint_of, spot_cmp, spot_at, is_same, has, has_spot}
 use Rattle.time_index.proofs.Sets.{itself, any_filtered}
 
@@ -84,7 +84,7 @@ among row twin n place header image before =
     let up_to : is_le (spot_cmp (spot_at n row) (spot_at place twin)) ≡ false = ap is_le (beside (spot_at n row) (spot_at place twin) start print) ∙ past_nats n place before in
     ap (λ b. b && not (is_le (spot_cmp (spot_at n row) (spot_at place twin)))) from ∙ ap not up_to
 
-module _ (rows : List Row) (m : BTreeMap Nslc Channel) (index : IsIndex rows m) (row : Row) where
+module _ (rows : List Row) (m : BTreeMap Nslc Channel) (index : IsChannelIndex rows m) (row : Row) where
   twin_held : (t : Twin rows row.image) → has_spot m row.header.name (spot_at t.place t.row) ≡ true
   twin_held t =
       index.spots row.header.name (spot_at t.place t.row)

@@ -28,6 +28,6 @@ LastsAtMost h micros = last_index h * h.rate.den * 1_000_000 ≤ micros * sample
 
 -- The channels together have each row's spot once, under the row's name, and no other spot. No row lasts
 -- longer than its channel says.
-pub record IsIndex (rows : List Row) (channels : BTreeMap Nslc Channel) : Type 0 where
+pub record IsChannelIndex (rows : List Row) (channels : BTreeMap Nslc Channel) : Type 0 where
   pub spots : (name : Nslc) (spot : Spot) → has_spot channels name spot ≡ stands rows name spot
   pub longest : (place : ℕ) (row : Row) → slice_get rows place ≡ Some row → LastsAtMost row.header (longest_of channels row.header.name)

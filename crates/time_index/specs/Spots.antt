@@ -11,7 +11,7 @@ use Rattle.channel_globs.specs.declared.nslc.Nslc.{Nslc}
 use Rattle.mseed_header.specs.Times.{last_index}
 use Rattle.mseed_header.specs.declared.header.Header.{Header}
 use Rattle.mseed_header.specs.declared.row.Row.{Row}
-use Rattle.dataselect.specs.Order.{name_cmp}
+use Rattle.channel_globs.specs.Names.{name_cmp}
 use Rattle.time_index.specs.declared.spot.Spot.{Spot}
 use Rattle.time_index.specs.declared.channels.Channel.{Channel}
 

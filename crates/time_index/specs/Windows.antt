@@ -17,22 +17,22 @@ use Rattle.time_index.specs.declared.channels.Channel.{Channel}
 use Rattle.time_index.specs.Spots.{spot_cmp}
 
 -- the first spot that a start can have
-abbrev pub first_at : ℤ → Spot
-first_at micros = record { start = record { micros = micros }; fingerprint = 0; place = 0 }
+abbrev pub first_spot_at : ℤ → Spot
+first_spot_at micros = record { start = record { micros = micros }; fingerprint = 0; place = 0 }
 
 -- The least start of rows that last so long at most and reach a moment. There is none where it is too low
 -- for a start.
 abbrev pub lower_of : Option Moment → ℕ → Option Spot
 lower_of None longest = None
 lower_of (Some t) longest =
-    if int_le (negsuc (2 ^ 63 - 1)) (t.micros -ℤ pos longest) then Some (first_at (t.micros -ℤ pos longest))
+    if int_le (negsuc (2 ^ 63 - 1)) (t.micros -ℤ pos longest) then Some (first_spot_at (t.micros -ℤ pos longest))
     else None
 
 -- The first spot after all that start at a moment or earlier. There is none where it is too high for a
 -- start.
 abbrev pub upper_of : Option Moment → Option Spot
 upper_of None = None
-upper_of (Some t) = if int_lt t.micros (pos (2 ^ 63 - 1)) then Some (first_at (t.micros +ℤ pos 1)) else None
+upper_of (Some t) = if int_lt t.micros (pos (2 ^ 63 - 1)) then Some (first_spot_at (t.micros +ℤ pos 1)) else None
 
 abbrev pub from_bound : Option Spot → Bound Spot
 from_bound None = Unbounded
@@ -67,14 +67,14 @@ abbrev pub candidates : List (Nslc × Channel) → List Selection → List ℕ
 candidates entries [] = []
 candidates entries (s ∷ selections) = places_in s entries ++ candidates entries selections
 
-abbrev pub is_among : ℕ → List ℕ → Bool
-is_among place places = list_any (λ p. p == place) places
+abbrev pub is_place_among : ℕ → List ℕ → Bool
+is_place_among place places = list_any (λ p. p == place) places
 
 -- the place of each row that some selection selects is among the places
 abbrev pub Cover : List Row → List Selection → List ℕ → Type 0
 Cover rows selections places =
     (place : ℕ) (row : Row) → slice_get rows place ≡ Some row → list_any (λ s. is_selected s row.header) selections ≡ true
-    → is_among place places ≡ true
+    → is_place_among place places ≡ true
 
 abbrev pub rank_if : (Row → Bool) → ℕ → Option Row → List Rank → List Rank
 rank_if test place None ranks = ranks

@@ -4,7 +4,7 @@ ghost use Rattle.std.specs.Ordering.{eq_by_cmp};
 ghost use Rattle.std.specs.BTreeMap.{get};
 ghost use Rattle.std.specs.BTreeSet.{contains};
 ghost use Rattle.channel_globs.specs.declared.nslc.Nslc.{Nslc};
-ghost use Rattle.dataselect.specs.Order.{name_cmp};
+ghost use Rattle.channel_globs.specs.Names.{name_cmp};
 ghost use Rattle.time_index.specs.declared.spot.Spot.{Spot};
 ghost use Rattle.time_index.specs.Spots.{spot_cmp, is_same, has_spot, longest_of};
 

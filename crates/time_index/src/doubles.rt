@@ -1,7 +1,7 @@
 //! Rows that are held already.
 ghost use Rattle.std.specs.Prelude.{◌≡◌};
 ghost use Rattle.std.specs.BTreeMap.{get};
-ghost use Rattle.dataselect.specs.Order.{name_cmp};
+ghost use Rattle.channel_globs.specs.Names.{name_cmp};
 ghost use Rattle.time_index.specs.Doubles.{has_image_at, is_twin_in, is_twin};
 
 use crate::channels::Channel;

@@ -3,9 +3,9 @@ ghost use Rattle.std.specs.Prelude.{◌≡◌, ℕ, ◌^◌, ◌<◌, ◌≤◌,
 ghost use Rattle.std.specs.Vec.{vec_len, vec_capacity};
 ghost use Rattle.dataselect.specs.Chosen.{chosen_places};
 ghost use Rattle.dataselect.specs.Rows.{has_image};
-ghost use Rattle.time_index.specs.Index.{IsIndex};
+ghost use Rattle.time_index.specs.Index.{IsChannelIndex};
 ghost use Rattle.time_index.specs.Spots.{spot_at};
-ghost use Rattle.time_index.specs.Windows.{Cover, is_among};
+ghost use Rattle.time_index.specs.Windows.{Cover, is_place_among};
 
 use crate::channels::{Channel, add_spot};
 use crate::doubles::is_twin;
@@ -27,7 +27,7 @@ pub struct IndexedShelf {
     rows: Vec<Row>,
     channels: BTreeMap<Nslc, Channel>,
     ghost few: { length rows.items ≤ 2 ^ 32 },
-    ghost index: { IsIndex rows.items channels },
+    ghost index: { IsChannelIndex rows.items channels },
 }
 
 // Puts a row at the end, where there is room for it.
@@ -43,7 +43,7 @@ fn put(rows: &mut Vec<Row>, row: Row)
 
 // The places of all rows.
 fn all_places(alloc: Global, len: usize) -> Result<Many<usize>, OutOfMemory>
-    ensures { IfOk result (λ places. (i : ℕ) → i < len → is_among i places ≡ true) }
+    ensures { IfOk result (λ places. (i : ℕ) → i < len → is_place_among i places ≡ true) }
 {
     let mut places = Many::new(alloc);
     'places: for place in 0..len {

@@ -4,7 +4,7 @@ ghost use Rattle.std.specs.List.{slice_get};
 ghost use Rattle.list_laws.specs.InOrder.{in_order};
 ghost use Rattle.dataselect.specs.Chosen.{passes};
 ghost use Rattle.dataselect.specs.Order.{rank_cmp};
-ghost use Rattle.time_index.specs.Windows.{first_at, lower_of, upper_of, from_bound, to_bound, is_forward, places_between, places_at, places_in, candidates, rank_if, ranks_at};
+ghost use Rattle.time_index.specs.Windows.{first_spot_at, lower_of, upper_of, from_bound, to_bound, is_forward, places_between, places_at, places_in, candidates, rank_if, ranks_at};
 
 use crate::channels::Channel;
 use crate::spot::Spot;
@@ -17,8 +17,8 @@ use std::collections::{BTreeMap, BTreeSet};
 use std::ops::Bound;
 
 // The first spot that a start can have.
-fn first_at(micros: i64) -> Spot
-    ensures { result ≡ first_at micros }
+fn first_spot_at(micros: i64) -> Spot
+    ensures { result ≡ first_spot_at micros }
 {
     Spot {
         start: Moment { micros },
@@ -35,7 +35,7 @@ fn lower(start: Option<Moment>, longest: u128) -> Option<Spot>
     if least < i64::MIN as i128 {
         return None;
     }
-    Some(first_at(least as i64))
+    Some(first_spot_at(least as i64))
 }
 
 // Up to where rows start by the end of a window.
@@ -46,7 +46,7 @@ fn upper(end: Option<Moment>) -> Option<Spot>
     if end.micros == i64::MAX {
         return None;
     }
-    Some(first_at(end.micros + 1))
+    Some(first_spot_at(end.micros + 1))
 }
 
 fn from_bound(lower: Option<Spot>) -> Bound<Spot>

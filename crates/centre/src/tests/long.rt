@@ -1,41 +1,48 @@
-//! An input that is too long.
-use crate::{MAX_INPUT, MemorySink, MemorySource, run};
-use exact_time::{Bytes, Many};
+//! Inputs as long as may be, and one byte longer.
+ghost use Rattle.std.specs.Prelude.{None};
+
+use crate::{MemorySink, Source, run};
+use exact_time::{Failed, Many};
 use std::alloc::Global;
 use std::test::Fail;
 
-const PIECE: [u8; 65_536] = [0; 65_536];
+// Gives so many zeros, and tells nothing.
+#[derive(Drop)]
+struct Zeros {
+    left: usize,
+}
 
-// So many zeros, in pieces.
-fn zeros(alloc: Global, size: usize) -> Result<Many<Bytes>, Fail> {
-    let mut pieces = Many::new(alloc);
-    for _ in 0..size / PIECE.len() {
-        let mut piece = Bytes::new(alloc);
-        piece.extend(&PIECE)?;
-        pieces.push(piece)?;
+impl Source for Zeros {
+    ghost left = { λ _. None };
+
+    ghost faults = { λ _. 0 };
+
+    fn take(&mut self, into: &mut [u8]) -> Result<usize, Failed> {
+        let count = self.left.min(into.len());
+        into[..count].fill(0);
+        self.left -= count;
+        Ok(count)
     }
-    let mut last = Bytes::new(alloc);
-    last.extend(PIECE.get(..size % PIECE.len()).ok_or("piece")?)?;
-    pieces.push(last)?;
-    Ok(pieces)
 }
 
 #[test]
-fn refuses_an_input_that_is_too_long(rt: HostRuntime) -> Result<(), Fail> {
+fn takes_64_mebibytes_at_most(rt: HostRuntime) -> Result<(), Fail> {
     let alloc = rt.alloc();
     let mut words: Vec<String> = Vec::new(alloc);
     for word in ["select", "*", "*", "*", "*", "2024-02-01", "2024-02-02"] {
         words.push(String::from_str(alloc, word)?)?;
     }
-    let mut source = MemorySource::new(zeros(alloc, MAX_INPUT + 1)?, Many::new(alloc));
-    let mut sink = MemorySink::new(alloc, Many::new(alloc));
-    let mut errors = MemorySink::new(alloc, Many::new(alloc));
-    let status = run(&rt, alloc, &words, &mut source, &mut sink, &mut errors);
-    assert_eq!(rt; status, 10);
-    assert_eq!(rt; sink.told().ok_or("lost")?, b"".as_slice());
-    assert_eq!(rt;
-        errors.told().ok_or("lost")?,
-        b"centre: input too long\n".as_slice()
-    );
+    // Zeros have no year, of which is told only where the input may be so long.
+    for (size, wanted, text) in [
+        (67_108_864, 2, "centre: record at offset 0: Year\n"),
+        (67_108_865, 10, "centre: input too long\n"),
+    ] {
+        let mut source = Zeros { left: size };
+        let mut sink = MemorySink::new(alloc, Many::new(alloc));
+        let mut errors = MemorySink::new(alloc, Many::new(alloc));
+        let status = run(&rt, alloc, &words, &mut source, &mut sink, &mut errors);
+        assert_eq!(rt; status, wanted);
+        assert_eq!(rt; errors.told().ok_or("lost")?, text.as_bytes());
+    }
     Ok(())
 }

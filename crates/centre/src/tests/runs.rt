@@ -2,7 +2,7 @@
 use super::records::{
     anmo_record, anmo_record_at, changed, little_endian_record, three_hertz_record,
 };
-use crate::{HELP, MemorySink, MemorySource, run};
+use crate::{HELP, MemorySink, MemorySource, StdSink, StdSource, run};
 use exact_time::{Bytes, Many};
 use std::alloc::Global;
 use std::process::Abort;
@@ -310,11 +310,10 @@ fn refuses_records_and_faults(rt: HostRuntime) -> Result<(), Fail> {
     Ok(())
 }
 
-// Runs the usual query over the record, and compares the status and what the sink got.
-fn check_sinks(
+// Runs the usual query over the record into the sink, and compares the status and what the sink got.
+fn check_sink(
     rt: &(impl Abort + AllocGlobal),
     mut sink: MemorySink,
-    mut errors: MemorySink,
     record: &[u8],
     status: u8,
     output: &[u8],
@@ -322,6 +321,7 @@ fn check_sinks(
     let alloc = rt.alloc();
     let words = owned_words(alloc, &USUAL)?;
     let mut source = MemorySource::new(pieces(alloc, record)?, Many::new(alloc));
+    let mut errors = MemorySink::new(alloc, Many::new(alloc));
     let ended = run(rt, alloc, &words, &mut source, &mut sink, &mut errors);
     assert_eq!(rt; ended, status);
     assert_eq!(rt; sink.told().ok_or("lost")?, output);
@@ -333,31 +333,24 @@ fn writes_a_first_part(rt: HostRuntime) -> Result<(), Fail> {
     let alloc = rt.alloc();
     let record = anmo_record();
     let part = record.get(..100).ok_or("short")?;
-    let errors = MemorySink::new(alloc, Many::new(alloc));
-    check_sinks(
-        &rt,
-        MemorySink::limited(alloc, 100),
-        errors,
-        &record,
-        6,
-        part,
-    )?;
+    check_sink(&rt, MemorySink::limited(alloc, 100), &record, 6, part)?;
     // Room for just the answer is enough.
-    let errors = MemorySink::new(alloc, Many::new(alloc));
-    check_sinks(
-        &rt,
-        MemorySink::limited(alloc, 512),
-        errors,
-        &record,
-        0,
-        &record,
-    )
+    check_sink(&rt, MemorySink::limited(alloc, 512), &record, 0, &record)
 }
 
-// A fault of the errors leaves the status.
+// The same from a reader to a writer of std.
 #[test]
-fn tells_as_far_as_it_can(rt: HostRuntime) -> Result<(), Fail> {
+fn runs_from_a_reader_to_a_writer(rt: HostRuntime) -> Result<(), Fail> {
     let alloc = rt.alloc();
-    let sink = MemorySink::new(alloc, Many::new(alloc));
-    check_sinks(&rt, sink, MemorySink::limited(alloc, 7), b"", 3, b"")
+    let words = owned_words(alloc, &USUAL)?;
+    let record = anmo_record();
+    let mut output: Vec<u8> = Vec::new(alloc);
+    let mut source = StdSource::new(record.as_slice());
+    let mut sink = StdSink::telling(&mut output);
+    let mut errors = MemorySink::new(alloc, Many::new(alloc));
+    let status = run(&rt, alloc, &words, &mut source, &mut sink, &mut errors);
+    assert_eq!(rt; status, 0);
+    drop(sink);
+    assert_eq!(rt; output.as_slice(), record.as_slice());
+    Ok(())
 }

@@ -5,7 +5,7 @@ use Rattle.archive_journal.proofs.recover.check_magic.Goals.{then-count-lt17-via
 
 pub returns-then-count-lt17-clause-fault : goal.returns-then-count-lt17-clause-fault
 returns-then-count-lt17-clause-fault g c tells =
-    let file = g.D.Disk.seen c.args.disk.now in
+    let file = g.D.Disk.content c.args.disk.now in
     let head = c.read.new.into in
     let read = c.in_ok-count.ensures.bytes tells in
     elim c.then-count-lt17.branch [
@@ -15,6 +15,6 @@ returns-then-count-lt17-clause-fault g c tells =
 
 pub returns-clause-magic : goal.returns-clause-magic
 returns-clause-magic g c tells =
-    let file = g.D.Disk.seen c.args.disk.now in
+    let file = g.D.Disk.content c.args.disk.now in
     let read = c.in_ok-count.ensures.bytes tells in
     begins_with_magic file c.read.new.into c.in_ok-count.count read c.if-count-lt17.false c.starts_with.result c.starts_with.ensures.value c.if-not-starts_with.false

@@ -9,11 +9,11 @@ invariant-gates g l =
     let d = g.D.Disk in
     record {
       tells : d.tells l.disk ≡ d.tells l.fn.disk;
-      seen : d.tells l.fn.disk ≡ true → d.seen l.disk ≡ d.seen l.fn.disk;
+      content : d.tells l.fn.disk ≡ true → d.content l.disk ≡ d.content l.fn.disk;
       crash : d.tells l.fn.disk ≡ true → Leaves (d.may_leave l.disk) (d.may_leave l.fn.disk);
       any_moment : d.tells l.fn.disk ≡ true → AlwaysLeaves d.moment d.left_since l.fn.disk l.disk (d.may_leave l.fn.disk);
       later : d.faults l.fn.disk ≤ d.faults l.disk;
-      walked : d.tells l.fn.disk ≡ true → IsWalked (d.seen l.fn.disk) l.offsets.items l.at;
+      walked : d.tells l.fn.disk ≡ true → IsWalked (d.content l.fn.disk) l.offsets.items l.at;
       fits : l.at < 2 ^ 63;
     }
 

@@ -1,6 +1,6 @@
 use Rattle.std.proofs.Common.{◌≡◌, ◌<◌, ◌≤◌, ◌+◌, take, length, arith, rules, ap, ℕ, []}
 use Rattle.std.proofs.lemmas.Result.{IfErr-weaker}
-use Rattle.centre.specs.declared.TheConstants.{MAX_INPUT}
+use Rattle.centre.specs.Limits.{most_input}
 use Rattle.centre.specs.Intake.{IsRestRefused, IntakeStops}
 use Rattle.centre.proofs.Shelved.{taken_none, taken_bad, taken_more, taken_too_much}
 use Rattle.centre.proofs.intake.take_records.Goals as goal
@@ -20,7 +20,7 @@ returns-then-total-count-clause-stops g c =
     let old = c.pieces.invariant.taken in
     let piece = take c.in-Ok.count c.take.new.into in
     let bounded = c.in-Ok.ensures.bound in
-    let long : MAX_INPUT < c.pieces.total + length piece = omega (arith, bounded.1, old.within) in
+    let long : most_input < c.pieces.total + length piece = omega (arith, bounded.1, old.within) in
     taken_too_much c.args.query.now (g.S.Source.left c.args.source.now) (g.S.Source.left c.pieces.source) (g.S.Source.left c.take.new.self) c.pieces.total c.pieces.intake.rest piece c.pieces.intake.place c.pieces.intake.fault (g.H.Shelf.rows c.pieces.shelf) c.in-Ok.ensures.bytes.0 long old
 
 pub pieces-preserved : goal.pieces-preserved
@@ -29,7 +29,7 @@ pieces-preserved g c =
     let piece = take c.in-Ok.count c.take.new.into in
     let bounded = c.in-Ok.ensures.bound in
     let size : c.in-Ok.count ≡ length piece = omega (arith, bounded.1) in
-    let fits : c.pieces.total + c.in-Ok.count ≤ MAX_INPUT = omega (arith, old.within) in
+    let fits : c.pieces.total + c.in-Ok.count ≤ most_input = omega (arith, old.within) in
     record {
       taken = taken_more c.args.query.now (g.S.Source.left c.args.source.now) (g.S.Source.left c.pieces.source) (g.S.Source.left c.take.new.self) c.pieces.total c.in-Ok.count c.pieces.intake.rest piece c.take-in-pieces.new.self.rest c.pieces.intake.place c.take-in-pieces.new.self.place c.pieces.intake.fault c.take-in-pieces.new.self.fault (g.H.Shelf.rows c.pieces.shelf) (g.H.Shelf.rows c.take-in-pieces.new.shelf)
           c.in-Ok.ensures.bytes.0 size fits c.in_ok-take.ensures.passes c.in_ok-take.ensures.fault old;

@@ -1,5 +1,5 @@
 use Rattle.std.proofs.Common.{◌-◌, ◌≤◌}
-use Rattle.centre.specs.declared.TheConstants.{MAX_INPUT}
+use Rattle.centre.specs.Limits.{most_input}
 use Rattle.centre.proofs.Shelved.{IsTaken}
 use Rattle.centre.proofs.intake.take_records.Given as goal
 
@@ -11,4 +11,4 @@ invariant-pieces g l = record {
 }
 
 abbrev pub decreases-pieces : goal.decreases-pieces
-decreases-pieces g l = MAX_INPUT - l.total
+decreases-pieces g l = most_input - l.total

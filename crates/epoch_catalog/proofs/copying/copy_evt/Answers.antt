@@ -2,7 +2,7 @@ use Rattle.epoch_catalog.proofs.copying.copy_evt.Goals as goal
 
 pub invariant_of-result : goal.invariant_of-result
 invariant_of-result c = record {
-  entry = rw (
+  spellable = rw (
     c.in_ok-id.ensures,
     c.in_ok-author.ensures,
     c.in_ok-catalog.ensures,
@@ -11,5 +11,5 @@ invariant_of-result c = record {
     c.in_ok-magnitude_kind.ensures,
     c.in_ok-magnitude_author.ensures,
     c.in_ok-location.ensures,
-  ) c.args.event.now.entry;
+  ) c.args.event.now.spellable;
 }

@@ -3,7 +3,7 @@ use Rattle.std.specs.List.Sorted.{IsPartitionedBy, IsPartitionPoint}
 use Rattle.std.proofs.lemmas.List.{take_all, length-drop}
 use Rattle.std.proofs.lemmas.List.Sorted.{IsPartitionPoint-from_clause}
 use Rattle.epochs.specs.declared.line.Line.{Line}
-use Rattle.epochs.specs.Views.{seen}
+use Rattle.epochs.specs.Views.{values_of_line}
 use Rattle.epoch_catalog.specs.declared.families.Family.{Family}
 use Rattle.epoch_catalog.proofs.FamilyCuts.{is_before, is_not_behind, first_parted, rest_parted, family_cut}
 use Rattle.epoch_catalog.proofs.families.family_in.Goals as goal
@@ -20,6 +20,6 @@ returns c =
     let rest : IsPartitionPoint (λ x. is_not_behind f x ≡ true) (λ x. is_not_behind f x ≡ false) (take (length lines - i) (drop i lines)) j =
     IsPartitionPoint-from_clause (is_not_behind f) (take (length lines - i) (drop i lines)) j c.partition_point-count.ensures.partitioned
     (subst (IsPartitionedBy (is_not_behind f)) (sym whole) (rest_parted f lines i c.requires.rises)) (λ a r g k. search (rules, of_calls)) in
-    ap (λ (xs : List Line). map seen (take j xs)) whole
+    ap (λ (xs : List Line). map values_of_line (take j xs)) whole
     ∙ family_cut f lines c.requires i j c.partition_point-first.ensures.bound (subst (λ (xs : List Line). j ≤ length xs) whole c.partition_point-count.ensures.bound) first
     (subst (λ (xs : List Line). IsPartitionPoint (λ x. is_not_behind f x ≡ true) (λ x. is_not_behind f x ≡ false) xs j) whole rest)

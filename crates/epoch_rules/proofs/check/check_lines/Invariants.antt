@@ -1,5 +1,5 @@
 use Rattle.std.proofs.Common.{◌≡◌, ◌+◌, map, drop}
-use Rattle.epochs.specs.Views.{seen}
+use Rattle.epochs.specs.Views.{values_of_line}
 use Rattle.epoch_rules.specs.Catalog.{IsCatalog}
 use Rattle.epoch_rules.specs.Outlines.{outlined, IsOutline}
 use Rattle.epoch_rules.proofs.OneCheck.{first_broken}
@@ -8,4 +8,4 @@ use Rattle.epoch_rules.proofs.check.check_lines.Given as goal
 abbrev pub invariant-lines : goal.invariant-lines
 invariant-lines l =
     IsOutline l.outline × IsCatalog (outlined l.outline)
-    × (first_broken (l.place + 1) (outlined l.outline) (map seen (drop l.place l.lines)) ≡ first_broken 1 (map seen l.live) (map seen l.lines))
+    × (first_broken (l.place + 1) (outlined l.outline) (map values_of_line (drop l.place l.lines)) ≡ first_broken 1 (map values_of_line l.live) (map values_of_line l.lines))

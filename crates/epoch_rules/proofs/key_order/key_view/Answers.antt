@@ -1,6 +1,6 @@
 use Rattle.std.proofs.Common.{[], ◌∙◌, ap, sym}
-use Rattle.epochs.specs.Views.{seen}
-use Rattle.epoch_rules.specs.KeyOrder.{parts_of}
+use Rattle.epochs.specs.Views.{values_of_line}
+use Rattle.epoch_rules.specs.KeyOrder.{key_parts_of}
 use Rattle.epoch_rules.specs.KeyViews.{view_of}
 use Rattle.epoch_rules.proofs.key_order.key_view.Goals as goal
 
@@ -9,4 +9,4 @@ pub returns-in-Cha : goal.returns-in-Cha
 returns-in-Cha c =
     c.epoch-in-Cha.ensures
     ∙ (λ i. view_of 2 (c.as_slice-in-Cha.ensures.value i) (c.as_slice-in-Cha-2.ensures.value i) (c.as_slice-in-Cha-3.ensures.value i) (c.as_slice-in-Cha-4.ensures.value i) [] c.in-Cha.cha.start.micros)
-    ∙ ap (λ l. parts_of (seen l)) (sym c.in-Cha.is)
+    ∙ ap (λ l. key_parts_of (values_of_line l)) (sym c.in-Cha.is)

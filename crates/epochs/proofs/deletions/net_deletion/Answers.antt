@@ -1,12 +1,12 @@
 use Rattle.std.proofs.Common.{arith, ◌≡◌, ◌∷◌, [], length}
 use Rattle.std.proofs.lemmas.Result.{err_from_is_err_and}
 use Rattle.channel_globs.specs.declared.nslc.Part.TheVariants.{Network}
-use Rattle.epochs.specs.declared.kinds.Kind.TheVariants.{Net}
+use Rattle.epochs.specs.declared.kinds.LineKind.TheVariants.{Net}
 use Rattle.epochs.specs.declared.kinds.Head.TheVariants.{Deletes}
 use Rattle.epochs.specs.Kinds.{CodeOf, Time}
 use Rattle.epochs.specs.Fields.{code}
 use Rattle.epochs.specs.Values.{time_value}
-use Rattle.epochs.proofs.LadderSteps.{entry_behind, field_among, refused_behind, some_from, spelled_behind, text_at}
+use Rattle.epochs.proofs.LadderSteps.{spellable_behind, field_among, refused_behind, some_from, spelled_behind, text_at}
 use Rattle.epochs.proofs.deletions.net_deletion.Goals as goal
 
 pub returns-in_err-start-clause-refused : goal.returns-in_err-start-clause-refused
@@ -22,7 +22,7 @@ pub invariant_of-result : goal.invariant_of-result
 invariant_of-result c =
     let fields = c.args.fields.now in
     record {
-      entry = entry_behind (Deletes Net) fields
+      spellable = spellable_behind (Deletes Net) fields
           (code c.in_ok-network.network ∷ time_value c.in_ok-start.start ∷ [])
           (c.in_ok-network.ensures.value, (c.in_ok-start.ensures.value, tt)) tt;
     }

@@ -2,12 +2,12 @@ use Rattle.std.proofs.Common.{rules, arith, ◌≡◌, ◌∷◌, [], length}
 use Rattle.std.proofs.lemmas.Result.{err_from_is_err_and}
 use Rattle.channel_globs.specs.declared.nslc.Part.TheVariants.{Network, Station, Location, Channel}
 use Rattle.epochs.specs.declared.quantity.Quantity.TheVariants.{Latitude, Longitude, Azimuth, Dip, Rate, Measure}
-use Rattle.epochs.specs.declared.kinds.Kind.TheVariants.{Cha}
+use Rattle.epochs.specs.declared.kinds.LineKind.TheVariants.{Cha}
 use Rattle.epochs.specs.declared.kinds.Head.TheVariants.{Says}
 use Rattle.epochs.specs.Kinds.{CodeOf, Words, Time, End, Required, Optional}
 use Rattle.epochs.specs.Fields.{code, words}
 use Rattle.epochs.specs.Values.{time_value, end_value, number_value, optional_value}
-use Rattle.epochs.proofs.LadderSteps.{backward_behind, entry_behind, group_among, refused_behind, some_from, spelled_behind}
+use Rattle.epochs.proofs.LadderSteps.{backward_behind, spellable_behind, group_among, refused_behind, some_from, spelled_behind}
 use Rattle.epochs.proofs.statements.read_cha.Goals as goal
 
 pub returns-in_err-latitude-clause-refused : goal.returns-in_err-latitude-clause-refused
@@ -25,7 +25,7 @@ returns-in_err-depth-clause-refused c =
     let count : length c.args.fields.now ≡ 17 = omega (arith, c.in-len17.len_at_least, c.in-len17.len_below) in
     let p = err_from_is_err_and c.from_residual-in_err-depth.result c.from_residual-in_err-depth.ensures.1 in
     let bad = group_among (CodeOf Network ∷ CodeOf Station ∷ CodeOf Location ∷ CodeOf Channel ∷ Required Latitude ∷ Required Longitude ∷ Required Measure ∷ []) (Required Measure ∷ Optional Azimuth ∷ Optional Dip ∷ Words ∷ []) (Optional Measure ∷ Optional Measure ∷ Words ∷ Required Rate ∷ Time ∷ End ∷ []) 2 (some_from fields 0 7) (some_from fields 7 4) (some_from fields 11 6)
-    (code c.in_ok-name.name.network ∷ code c.in_ok-name.name.station ∷ code c.in_ok-name.name.location ∷ code c.in_ok-name.name.channel ∷ number_value c.in_ok-latitude.latitude ∷ number_value c.in_ok-latitude.longitude ∷ number_value c.in_ok-latitude.elevation ∷ []) c.in_err-depth.field-0.0 (c.in_ok-name.ensures.value.0, (c.in_ok-name.ensures.value.1.0, (c.in_ok-name.ensures.value.1.1.0, (c.in_ok-name.ensures.value.1.1.1.0, (c.in_ok-latitude.ensures.value.0, (c.in_ok-latitude.ensures.value.1.0, (c.in_ok-latitude.ensures.value.1.1.0, tt))))))) c.in_err-depth.ensures.refused in
+    (code c.in_ok-name.name.network ∷ code c.in_ok-name.name.station ∷ code c.in_ok-name.name.location ∷ code c.in_ok-name.name.channel ∷ number_value c.in_ok-latitude.field-0.latitude ∷ number_value c.in_ok-latitude.field-0.longitude ∷ number_value c.in_ok-latitude.field-0.elevation ∷ []) c.in_err-depth.field-0.0 (c.in_ok-name.ensures.value.0, (c.in_ok-name.ensures.value.1.0, (c.in_ok-name.ensures.value.1.1.0, (c.in_ok-name.ensures.value.1.1.1.0, (c.in_ok-latitude.ensures.value.0, (c.in_ok-latitude.ensures.value.1.0, (c.in_ok-latitude.ensures.value.1.1.0, tt))))))) c.in_err-depth.ensures.refused in
     rw (p.1, p.2) (refused_behind (Says Cha) fields c.in_err-depth.field-0.0 count bad)
 
 pub returns-in_err-scale-clause-refused : goal.returns-in_err-scale-clause-refused
@@ -34,7 +34,7 @@ returns-in_err-scale-clause-refused c =
     let count : length c.args.fields.now ≡ 17 = omega (arith, c.in-len17.len_at_least, c.in-len17.len_below) in
     let p = err_from_is_err_and c.from_residual-in_err-scale.result c.from_residual-in_err-scale.ensures.1 in
     let bad = group_among (CodeOf Network ∷ CodeOf Station ∷ CodeOf Location ∷ CodeOf Channel ∷ Required Latitude ∷ Required Longitude ∷ Required Measure ∷ Required Measure ∷ Optional Azimuth ∷ Optional Dip ∷ Words ∷ []) (Optional Measure ∷ Optional Measure ∷ Words ∷ Required Rate ∷ []) (Time ∷ End ∷ []) 2 (some_from fields 0 11) (some_from fields 11 4) (some_from fields 15 2)
-    (code c.in_ok-name.name.network ∷ code c.in_ok-name.name.station ∷ code c.in_ok-name.name.location ∷ code c.in_ok-name.name.channel ∷ number_value c.in_ok-latitude.latitude ∷ number_value c.in_ok-latitude.longitude ∷ number_value c.in_ok-latitude.elevation ∷ number_value c.in_ok-depth.depth ∷ optional_value c.in_ok-depth.azimuth ∷ optional_value c.in_ok-depth.dip ∷ words c.in_ok-depth.sensor ∷ []) c.in_err-scale.field-0.0 (c.in_ok-name.ensures.value.0, (c.in_ok-name.ensures.value.1.0, (c.in_ok-name.ensures.value.1.1.0, (c.in_ok-name.ensures.value.1.1.1.0, (c.in_ok-latitude.ensures.value.0, (c.in_ok-latitude.ensures.value.1.0, (c.in_ok-latitude.ensures.value.1.1.0, (c.in_ok-depth.ensures.value.0, (c.in_ok-depth.ensures.value.1.0, (c.in_ok-depth.ensures.value.1.1.0, (c.in_ok-depth.ensures.value.1.1.1.0, tt))))))))))) c.in_err-scale.ensures.refused in
+    (code c.in_ok-name.name.network ∷ code c.in_ok-name.name.station ∷ code c.in_ok-name.name.location ∷ code c.in_ok-name.name.channel ∷ number_value c.in_ok-latitude.field-0.latitude ∷ number_value c.in_ok-latitude.field-0.longitude ∷ number_value c.in_ok-latitude.field-0.elevation ∷ number_value c.in_ok-depth.field-0.depth ∷ optional_value c.in_ok-depth.field-0.azimuth ∷ optional_value c.in_ok-depth.field-0.dip ∷ words c.in_ok-depth.field-0.sensor ∷ []) c.in_err-scale.field-0.0 (c.in_ok-name.ensures.value.0, (c.in_ok-name.ensures.value.1.0, (c.in_ok-name.ensures.value.1.1.0, (c.in_ok-name.ensures.value.1.1.1.0, (c.in_ok-latitude.ensures.value.0, (c.in_ok-latitude.ensures.value.1.0, (c.in_ok-latitude.ensures.value.1.1.0, (c.in_ok-depth.ensures.value.0, (c.in_ok-depth.ensures.value.1.0, (c.in_ok-depth.ensures.value.1.1.0, (c.in_ok-depth.ensures.value.1.1.1.0, tt))))))))))) c.in_err-scale.ensures.refused in
     rw (p.1, p.2) (refused_behind (Says Cha) fields c.in_err-scale.field-0.0 count bad)
 
 pub returns-in_err-start-clause-refused : goal.returns-in_err-start-clause-refused
@@ -43,7 +43,7 @@ returns-in_err-start-clause-refused c =
     let count : length c.args.fields.now ≡ 17 = omega (arith, c.in-len17.len_at_least, c.in-len17.len_below) in
     let p = err_from_is_err_and c.from_residual-in_err-start.result c.from_residual-in_err-start.ensures.1 in
     let bad = group_among (CodeOf Network ∷ CodeOf Station ∷ CodeOf Location ∷ CodeOf Channel ∷ Required Latitude ∷ Required Longitude ∷ Required Measure ∷ Required Measure ∷ Optional Azimuth ∷ Optional Dip ∷ Words ∷ Optional Measure ∷ Optional Measure ∷ Words ∷ Required Rate ∷ []) (Time ∷ End ∷ []) [] 2 (some_from fields 0 15) (some_from fields 15 2) (some_from fields 17 0)
-    (code c.in_ok-name.name.network ∷ code c.in_ok-name.name.station ∷ code c.in_ok-name.name.location ∷ code c.in_ok-name.name.channel ∷ number_value c.in_ok-latitude.latitude ∷ number_value c.in_ok-latitude.longitude ∷ number_value c.in_ok-latitude.elevation ∷ number_value c.in_ok-depth.depth ∷ optional_value c.in_ok-depth.azimuth ∷ optional_value c.in_ok-depth.dip ∷ words c.in_ok-depth.sensor ∷ optional_value c.in_ok-scale.scale ∷ optional_value c.in_ok-scale.scale_freq ∷ words c.in_ok-scale.scale_units ∷ number_value c.in_ok-scale.sample_rate ∷ []) c.in_err-start.field-0.0 (c.in_ok-name.ensures.value.0, (c.in_ok-name.ensures.value.1.0, (c.in_ok-name.ensures.value.1.1.0, (c.in_ok-name.ensures.value.1.1.1.0, (c.in_ok-latitude.ensures.value.0, (c.in_ok-latitude.ensures.value.1.0, (c.in_ok-latitude.ensures.value.1.1.0, (c.in_ok-depth.ensures.value.0, (c.in_ok-depth.ensures.value.1.0, (c.in_ok-depth.ensures.value.1.1.0, (c.in_ok-depth.ensures.value.1.1.1.0, (c.in_ok-scale.ensures.value.0, (c.in_ok-scale.ensures.value.1.0, (c.in_ok-scale.ensures.value.1.1.0, (c.in_ok-scale.ensures.value.1.1.1.0, tt))))))))))))))) c.in_err-start.ensures.refused in
+    (code c.in_ok-name.name.network ∷ code c.in_ok-name.name.station ∷ code c.in_ok-name.name.location ∷ code c.in_ok-name.name.channel ∷ number_value c.in_ok-latitude.field-0.latitude ∷ number_value c.in_ok-latitude.field-0.longitude ∷ number_value c.in_ok-latitude.field-0.elevation ∷ number_value c.in_ok-depth.field-0.depth ∷ optional_value c.in_ok-depth.field-0.azimuth ∷ optional_value c.in_ok-depth.field-0.dip ∷ words c.in_ok-depth.field-0.sensor ∷ optional_value c.in_ok-scale.field-0.scale ∷ optional_value c.in_ok-scale.field-0.scale_freq ∷ words c.in_ok-scale.field-0.scale_units ∷ number_value c.in_ok-scale.field-0.sample_rate ∷ []) c.in_err-start.field-0.0 (c.in_ok-name.ensures.value.0, (c.in_ok-name.ensures.value.1.0, (c.in_ok-name.ensures.value.1.1.0, (c.in_ok-name.ensures.value.1.1.1.0, (c.in_ok-latitude.ensures.value.0, (c.in_ok-latitude.ensures.value.1.0, (c.in_ok-latitude.ensures.value.1.1.0, (c.in_ok-depth.ensures.value.0, (c.in_ok-depth.ensures.value.1.0, (c.in_ok-depth.ensures.value.1.1.0, (c.in_ok-depth.ensures.value.1.1.1.0, (c.in_ok-scale.ensures.value.0, (c.in_ok-scale.ensures.value.1.0, (c.in_ok-scale.ensures.value.1.1.0, (c.in_ok-scale.ensures.value.1.1.1.0, tt))))))))))))))) c.in_err-start.ensures.refused in
     rw (p.1, p.2) (refused_behind (Says Cha) fields c.in_err-start.field-0.0 count bad)
 
 pub returns-then-not-is_after-clause-refused : goal.returns-then-not-is_after-clause-refused
@@ -51,15 +51,15 @@ returns-then-not-is_after-clause-refused c =
     let fields = c.args.fields.now in
     let count : length c.args.fields.now ≡ 17 = omega (arith, c.in-len17.len_at_least, c.in-len17.len_below) in
     backward_behind (Says Cha) fields
-    (code c.in_ok-name.name.network ∷ code c.in_ok-name.name.station ∷ code c.in_ok-name.name.location ∷ code c.in_ok-name.name.channel ∷ number_value c.in_ok-latitude.latitude ∷ number_value c.in_ok-latitude.longitude ∷ number_value c.in_ok-latitude.elevation ∷ number_value c.in_ok-depth.depth ∷ optional_value c.in_ok-depth.azimuth ∷ optional_value c.in_ok-depth.dip ∷ words c.in_ok-depth.sensor ∷ optional_value c.in_ok-scale.scale ∷ optional_value c.in_ok-scale.scale_freq ∷ words c.in_ok-scale.scale_units ∷ number_value c.in_ok-scale.sample_rate ∷ time_value c.in_ok-start.start ∷ end_value c.in_ok-start.end ∷ [])
+    (code c.in_ok-name.name.network ∷ code c.in_ok-name.name.station ∷ code c.in_ok-name.name.location ∷ code c.in_ok-name.name.channel ∷ number_value c.in_ok-latitude.field-0.latitude ∷ number_value c.in_ok-latitude.field-0.longitude ∷ number_value c.in_ok-latitude.field-0.elevation ∷ number_value c.in_ok-depth.field-0.depth ∷ optional_value c.in_ok-depth.field-0.azimuth ∷ optional_value c.in_ok-depth.field-0.dip ∷ words c.in_ok-depth.field-0.sensor ∷ optional_value c.in_ok-scale.field-0.scale ∷ optional_value c.in_ok-scale.field-0.scale_freq ∷ words c.in_ok-scale.field-0.scale_units ∷ number_value c.in_ok-scale.field-0.sample_rate ∷ time_value c.in_ok-start.field-0.start ∷ end_value c.in_ok-start.field-0.end ∷ [])
     count (c.in_ok-name.ensures.value.0, (c.in_ok-name.ensures.value.1.0, (c.in_ok-name.ensures.value.1.1.0, (c.in_ok-name.ensures.value.1.1.1.0, (c.in_ok-latitude.ensures.value.0, (c.in_ok-latitude.ensures.value.1.0, (c.in_ok-latitude.ensures.value.1.1.0, (c.in_ok-depth.ensures.value.0, (c.in_ok-depth.ensures.value.1.0, (c.in_ok-depth.ensures.value.1.1.0, (c.in_ok-depth.ensures.value.1.1.1.0, (c.in_ok-scale.ensures.value.0, (c.in_ok-scale.ensures.value.1.0, (c.in_ok-scale.ensures.value.1.1.0, (c.in_ok-scale.ensures.value.1.1.1.0, (c.in_ok-start.ensures.value.0, (c.in_ok-start.ensures.value.1.0, tt))))))))))))))))) (search rules)
 
 pub invariant_of-result : goal.invariant_of-result
 invariant_of-result c =
     let fields = c.args.fields.now in
     record {
-      entry = entry_behind (Says Cha) fields
-          (code c.in_ok-name.name.network ∷ code c.in_ok-name.name.station ∷ code c.in_ok-name.name.location ∷ code c.in_ok-name.name.channel ∷ number_value c.in_ok-latitude.latitude ∷ number_value c.in_ok-latitude.longitude ∷ number_value c.in_ok-latitude.elevation ∷ number_value c.in_ok-depth.depth ∷ optional_value c.in_ok-depth.azimuth ∷ optional_value c.in_ok-depth.dip ∷ words c.in_ok-depth.sensor ∷ optional_value c.in_ok-scale.scale ∷ optional_value c.in_ok-scale.scale_freq ∷ words c.in_ok-scale.scale_units ∷ number_value c.in_ok-scale.sample_rate ∷ time_value c.in_ok-start.start ∷ end_value c.in_ok-start.end ∷ [])
+      spellable = spellable_behind (Says Cha) fields
+          (code c.in_ok-name.name.network ∷ code c.in_ok-name.name.station ∷ code c.in_ok-name.name.location ∷ code c.in_ok-name.name.channel ∷ number_value c.in_ok-latitude.field-0.latitude ∷ number_value c.in_ok-latitude.field-0.longitude ∷ number_value c.in_ok-latitude.field-0.elevation ∷ number_value c.in_ok-depth.field-0.depth ∷ optional_value c.in_ok-depth.field-0.azimuth ∷ optional_value c.in_ok-depth.field-0.dip ∷ words c.in_ok-depth.field-0.sensor ∷ optional_value c.in_ok-scale.field-0.scale ∷ optional_value c.in_ok-scale.field-0.scale_freq ∷ words c.in_ok-scale.field-0.scale_units ∷ number_value c.in_ok-scale.field-0.sample_rate ∷ time_value c.in_ok-start.field-0.start ∷ end_value c.in_ok-start.field-0.end ∷ [])
           (c.in_ok-name.ensures.value.0, (c.in_ok-name.ensures.value.1.0, (c.in_ok-name.ensures.value.1.1.0, (c.in_ok-name.ensures.value.1.1.1.0, (c.in_ok-latitude.ensures.value.0, (c.in_ok-latitude.ensures.value.1.0, (c.in_ok-latitude.ensures.value.1.1.0, (c.in_ok-depth.ensures.value.0, (c.in_ok-depth.ensures.value.1.0, (c.in_ok-depth.ensures.value.1.1.0, (c.in_ok-depth.ensures.value.1.1.1.0, (c.in_ok-scale.ensures.value.0, (c.in_ok-scale.ensures.value.1.0, (c.in_ok-scale.ensures.value.1.1.0, (c.in_ok-scale.ensures.value.1.1.1.0, (c.in_ok-start.ensures.value.0, (c.in_ok-start.ensures.value.1.0, tt))))))))))))))))) (c.is_after.ensures.0 c.if-not-is_after.false);
     }
 
@@ -68,5 +68,5 @@ returns-clause-value c =
     let fields = c.args.fields.now in
     let count : length c.args.fields.now ≡ 17 = omega (arith, c.in-len17.len_at_least, c.in-len17.len_below) in
     spelled_behind (Says Cha) fields
-    (code c.in_ok-name.name.network ∷ code c.in_ok-name.name.station ∷ code c.in_ok-name.name.location ∷ code c.in_ok-name.name.channel ∷ number_value c.in_ok-latitude.latitude ∷ number_value c.in_ok-latitude.longitude ∷ number_value c.in_ok-latitude.elevation ∷ number_value c.in_ok-depth.depth ∷ optional_value c.in_ok-depth.azimuth ∷ optional_value c.in_ok-depth.dip ∷ words c.in_ok-depth.sensor ∷ optional_value c.in_ok-scale.scale ∷ optional_value c.in_ok-scale.scale_freq ∷ words c.in_ok-scale.scale_units ∷ number_value c.in_ok-scale.sample_rate ∷ time_value c.in_ok-start.start ∷ end_value c.in_ok-start.end ∷ [])
+    (code c.in_ok-name.name.network ∷ code c.in_ok-name.name.station ∷ code c.in_ok-name.name.location ∷ code c.in_ok-name.name.channel ∷ number_value c.in_ok-latitude.field-0.latitude ∷ number_value c.in_ok-latitude.field-0.longitude ∷ number_value c.in_ok-latitude.field-0.elevation ∷ number_value c.in_ok-depth.field-0.depth ∷ optional_value c.in_ok-depth.field-0.azimuth ∷ optional_value c.in_ok-depth.field-0.dip ∷ words c.in_ok-depth.field-0.sensor ∷ optional_value c.in_ok-scale.field-0.scale ∷ optional_value c.in_ok-scale.field-0.scale_freq ∷ words c.in_ok-scale.field-0.scale_units ∷ number_value c.in_ok-scale.field-0.sample_rate ∷ time_value c.in_ok-start.field-0.start ∷ end_value c.in_ok-start.field-0.end ∷ [])
     count (c.in_ok-name.ensures.value.0, (c.in_ok-name.ensures.value.1.0, (c.in_ok-name.ensures.value.1.1.0, (c.in_ok-name.ensures.value.1.1.1.0, (c.in_ok-latitude.ensures.value.0, (c.in_ok-latitude.ensures.value.1.0, (c.in_ok-latitude.ensures.value.1.1.0, (c.in_ok-depth.ensures.value.0, (c.in_ok-depth.ensures.value.1.0, (c.in_ok-depth.ensures.value.1.1.0, (c.in_ok-depth.ensures.value.1.1.1.0, (c.in_ok-scale.ensures.value.0, (c.in_ok-scale.ensures.value.1.0, (c.in_ok-scale.ensures.value.1.1.0, (c.in_ok-scale.ensures.value.1.1.1.0, (c.in_ok-start.ensures.value.0, (c.in_ok-start.ensures.value.1.0, tt))))))))))))))))) (c.is_after.ensures.0 c.if-not-is_after.false)

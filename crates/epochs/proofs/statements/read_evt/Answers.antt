@@ -1,12 +1,12 @@
 use Rattle.std.proofs.Common.{arith, ◌≡◌, ◌∷◌, [], length}
 use Rattle.std.proofs.lemmas.Result.{err_from_is_err_and}
 use Rattle.epochs.specs.declared.quantity.Quantity.TheVariants.{Latitude, Longitude, Measure}
-use Rattle.epochs.specs.declared.kinds.Kind.TheVariants.{Evt}
+use Rattle.epochs.specs.declared.kinds.LineKind.TheVariants.{Evt}
 use Rattle.epochs.specs.declared.kinds.Head.TheVariants.{Says}
 use Rattle.epochs.specs.Kinds.{Words, Time, Required, Optional, EventId}
 use Rattle.epochs.specs.Fields.{words}
 use Rattle.epochs.specs.Values.{time_value, number_value, optional_value}
-use Rattle.epochs.proofs.LadderSteps.{entry_behind, group_among, refused_behind, some_from, spelled_behind}
+use Rattle.epochs.proofs.LadderSteps.{spellable_behind, group_among, refused_behind, some_from, spelled_behind}
 use Rattle.epochs.proofs.statements.read_evt.Goals as goal
 
 pub returns-in_err-latitude-clause-refused : goal.returns-in_err-latitude-clause-refused
@@ -24,7 +24,7 @@ returns-in_err-author-clause-refused c =
     let count : length c.args.fields.now ≡ 13 = omega (arith, c.in-len13.len_at_least, c.in-len13.len_below) in
     let p = err_from_is_err_and c.from_residual-in_err-author.result c.from_residual-in_err-author.ensures.1 in
     let bad = group_among (EventId ∷ Time ∷ Required Latitude ∷ Required Longitude ∷ Optional Measure ∷ []) (Words ∷ Words ∷ Words ∷ Words ∷ []) (Words ∷ Optional Measure ∷ Words ∷ Words ∷ []) 2 (some_from fields 0 5) (some_from fields 5 4) (some_from fields 9 4)
-    (words c.in_ok-id.id ∷ time_value c.in_ok-id.time ∷ number_value c.in_ok-latitude.latitude ∷ number_value c.in_ok-latitude.longitude ∷ optional_value c.in_ok-latitude.depth ∷ []) c.in_err-author.field-0.0 (c.in_ok-id.ensures.value.0, (c.in_ok-id.ensures.value.1.0, (c.in_ok-latitude.ensures.value.0, (c.in_ok-latitude.ensures.value.1.0, (c.in_ok-latitude.ensures.value.1.1.0, tt))))) c.in_err-author.ensures.refused in
+    (words c.in_ok-id.id ∷ time_value c.in_ok-id.time ∷ number_value c.in_ok-latitude.field-0.latitude ∷ number_value c.in_ok-latitude.field-0.longitude ∷ optional_value c.in_ok-latitude.field-0.depth ∷ []) c.in_err-author.field-0.0 (c.in_ok-id.ensures.value.0, (c.in_ok-id.ensures.value.1.0, (c.in_ok-latitude.ensures.value.0, (c.in_ok-latitude.ensures.value.1.0, (c.in_ok-latitude.ensures.value.1.1.0, tt))))) c.in_err-author.ensures.refused in
     rw (p.1, p.2) (refused_behind (Says Evt) fields c.in_err-author.field-0.0 count bad)
 
 pub returns-in_err-magnitude_kind-clause-refused : goal.returns-in_err-magnitude_kind-clause-refused
@@ -33,15 +33,15 @@ returns-in_err-magnitude_kind-clause-refused c =
     let count : length c.args.fields.now ≡ 13 = omega (arith, c.in-len13.len_at_least, c.in-len13.len_below) in
     let p = err_from_is_err_and c.from_residual-in_err-magnitude_kind.result c.from_residual-in_err-magnitude_kind.ensures.1 in
     let bad = group_among (EventId ∷ Time ∷ Required Latitude ∷ Required Longitude ∷ Optional Measure ∷ Words ∷ Words ∷ Words ∷ Words ∷ []) (Words ∷ Optional Measure ∷ Words ∷ Words ∷ []) [] 2 (some_from fields 0 9) (some_from fields 9 4) (some_from fields 13 0)
-    (words c.in_ok-id.id ∷ time_value c.in_ok-id.time ∷ number_value c.in_ok-latitude.latitude ∷ number_value c.in_ok-latitude.longitude ∷ optional_value c.in_ok-latitude.depth ∷ words c.in_ok-author.author ∷ words c.in_ok-author.catalog ∷ words c.in_ok-author.contributor ∷ words c.in_ok-author.contributor_id ∷ []) c.in_err-magnitude_kind.field-0.0 (c.in_ok-id.ensures.value.0, (c.in_ok-id.ensures.value.1.0, (c.in_ok-latitude.ensures.value.0, (c.in_ok-latitude.ensures.value.1.0, (c.in_ok-latitude.ensures.value.1.1.0, (c.in_ok-author.ensures.value.0, (c.in_ok-author.ensures.value.1.0, (c.in_ok-author.ensures.value.1.1.0, (c.in_ok-author.ensures.value.1.1.1.0, tt))))))))) c.in_err-magnitude_kind.ensures.refused in
+    (words c.in_ok-id.id ∷ time_value c.in_ok-id.time ∷ number_value c.in_ok-latitude.field-0.latitude ∷ number_value c.in_ok-latitude.field-0.longitude ∷ optional_value c.in_ok-latitude.field-0.depth ∷ words c.in_ok-author.field-0.author ∷ words c.in_ok-author.field-0.catalog ∷ words c.in_ok-author.field-0.contributor ∷ words c.in_ok-author.field-0.contributor_id ∷ []) c.in_err-magnitude_kind.field-0.0 (c.in_ok-id.ensures.value.0, (c.in_ok-id.ensures.value.1.0, (c.in_ok-latitude.ensures.value.0, (c.in_ok-latitude.ensures.value.1.0, (c.in_ok-latitude.ensures.value.1.1.0, (c.in_ok-author.ensures.value.0, (c.in_ok-author.ensures.value.1.0, (c.in_ok-author.ensures.value.1.1.0, (c.in_ok-author.ensures.value.1.1.1.0, tt))))))))) c.in_err-magnitude_kind.ensures.refused in
     rw (p.1, p.2) (refused_behind (Says Evt) fields c.in_err-magnitude_kind.field-0.0 count bad)
 
 pub invariant_of-result : goal.invariant_of-result
 invariant_of-result c =
     let fields = c.args.fields.now in
     record {
-      entry = entry_behind (Says Evt) fields
-          (words c.in_ok-id.id ∷ time_value c.in_ok-id.time ∷ number_value c.in_ok-latitude.latitude ∷ number_value c.in_ok-latitude.longitude ∷ optional_value c.in_ok-latitude.depth ∷ words c.in_ok-author.author ∷ words c.in_ok-author.catalog ∷ words c.in_ok-author.contributor ∷ words c.in_ok-author.contributor_id ∷ words c.in_ok-magnitude_kind.magnitude_kind ∷ optional_value c.in_ok-magnitude_kind.magnitude ∷ words c.in_ok-magnitude_kind.magnitude_author ∷ words c.in_ok-magnitude_kind.location ∷ [])
+      spellable = spellable_behind (Says Evt) fields
+          (words c.in_ok-id.id ∷ time_value c.in_ok-id.time ∷ number_value c.in_ok-latitude.field-0.latitude ∷ number_value c.in_ok-latitude.field-0.longitude ∷ optional_value c.in_ok-latitude.field-0.depth ∷ words c.in_ok-author.field-0.author ∷ words c.in_ok-author.field-0.catalog ∷ words c.in_ok-author.field-0.contributor ∷ words c.in_ok-author.field-0.contributor_id ∷ words c.in_ok-magnitude_kind.field-0.kind ∷ optional_value c.in_ok-magnitude_kind.field-0.magnitude ∷ words c.in_ok-magnitude_kind.field-0.author ∷ words c.in_ok-magnitude_kind.field-0.location ∷ [])
           (c.in_ok-id.ensures.value.0, (c.in_ok-id.ensures.value.1.0, (c.in_ok-latitude.ensures.value.0, (c.in_ok-latitude.ensures.value.1.0, (c.in_ok-latitude.ensures.value.1.1.0, (c.in_ok-author.ensures.value.0, (c.in_ok-author.ensures.value.1.0, (c.in_ok-author.ensures.value.1.1.0, (c.in_ok-author.ensures.value.1.1.1.0, (c.in_ok-magnitude_kind.ensures.value.0, (c.in_ok-magnitude_kind.ensures.value.1.0, (c.in_ok-magnitude_kind.ensures.value.1.1.0, (c.in_ok-magnitude_kind.ensures.value.1.1.1.0, tt))))))))))))) tt;
     }
 
@@ -50,5 +50,5 @@ returns-clause-value c =
     let fields = c.args.fields.now in
     let count : length c.args.fields.now ≡ 13 = omega (arith, c.in-len13.len_at_least, c.in-len13.len_below) in
     spelled_behind (Says Evt) fields
-    (words c.in_ok-id.id ∷ time_value c.in_ok-id.time ∷ number_value c.in_ok-latitude.latitude ∷ number_value c.in_ok-latitude.longitude ∷ optional_value c.in_ok-latitude.depth ∷ words c.in_ok-author.author ∷ words c.in_ok-author.catalog ∷ words c.in_ok-author.contributor ∷ words c.in_ok-author.contributor_id ∷ words c.in_ok-magnitude_kind.magnitude_kind ∷ optional_value c.in_ok-magnitude_kind.magnitude ∷ words c.in_ok-magnitude_kind.magnitude_author ∷ words c.in_ok-magnitude_kind.location ∷ [])
+    (words c.in_ok-id.id ∷ time_value c.in_ok-id.time ∷ number_value c.in_ok-latitude.field-0.latitude ∷ number_value c.in_ok-latitude.field-0.longitude ∷ optional_value c.in_ok-latitude.field-0.depth ∷ words c.in_ok-author.field-0.author ∷ words c.in_ok-author.field-0.catalog ∷ words c.in_ok-author.field-0.contributor ∷ words c.in_ok-author.field-0.contributor_id ∷ words c.in_ok-magnitude_kind.field-0.kind ∷ optional_value c.in_ok-magnitude_kind.field-0.magnitude ∷ words c.in_ok-magnitude_kind.field-0.author ∷ words c.in_ok-magnitude_kind.field-0.location ∷ [])
     count (c.in_ok-id.ensures.value.0, (c.in_ok-id.ensures.value.1.0, (c.in_ok-latitude.ensures.value.0, (c.in_ok-latitude.ensures.value.1.0, (c.in_ok-latitude.ensures.value.1.1.0, (c.in_ok-author.ensures.value.0, (c.in_ok-author.ensures.value.1.0, (c.in_ok-author.ensures.value.1.1.0, (c.in_ok-author.ensures.value.1.1.1.0, (c.in_ok-magnitude_kind.ensures.value.0, (c.in_ok-magnitude_kind.ensures.value.1.0, (c.in_ok-magnitude_kind.ensures.value.1.1.0, (c.in_ok-magnitude_kind.ensures.value.1.1.1.0, tt))))))))))))) tt

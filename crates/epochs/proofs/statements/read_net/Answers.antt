@@ -1,12 +1,12 @@
 use Rattle.std.proofs.Common.{rules, arith, ◌≡◌, ◌∷◌, [], length}
 use Rattle.std.proofs.lemmas.Result.{err_from_is_err_and}
 use Rattle.channel_globs.specs.declared.nslc.Part.TheVariants.{Network}
-use Rattle.epochs.specs.declared.kinds.Kind.TheVariants.{Net}
+use Rattle.epochs.specs.declared.kinds.LineKind.TheVariants.{Net}
 use Rattle.epochs.specs.declared.kinds.Head.TheVariants.{Says}
 use Rattle.epochs.specs.Kinds.{CodeOf, Words, Time, End}
 use Rattle.epochs.specs.Fields.{code, words}
 use Rattle.epochs.specs.Values.{time_value, end_value}
-use Rattle.epochs.proofs.LadderSteps.{backward_behind, entry_behind, field_among, group_among, refused_behind, some_from, spelled_behind, text_at}
+use Rattle.epochs.proofs.LadderSteps.{backward_behind, spellable_behind, field_among, group_among, refused_behind, some_from, spelled_behind, text_at}
 use Rattle.epochs.proofs.statements.read_net.Goals as goal
 
 pub returns-in_err-description-clause-refused : goal.returns-in_err-description-clause-refused
@@ -32,15 +32,15 @@ returns-then-not-is_after-clause-refused c =
     let fields = c.args.fields.now in
     let count : length c.args.fields.now ≡ 4 = omega (arith, c.in-len4.len_at_least, c.in-len4.len_below) in
     backward_behind (Says Net) fields
-    (code c.in_ok-network.network ∷ words c.in_ok-description.description ∷ time_value c.in_ok-start.start ∷ end_value c.in_ok-start.end ∷ [])
+    (code c.in_ok-network.network ∷ words c.in_ok-description.description ∷ time_value c.in_ok-start.field-0.start ∷ end_value c.in_ok-start.field-0.end ∷ [])
     count (c.in_ok-network.ensures.value, (c.in_ok-description.ensures.value, (c.in_ok-start.ensures.value.0, (c.in_ok-start.ensures.value.1.0, tt)))) (search rules)
 
 pub invariant_of-result : goal.invariant_of-result
 invariant_of-result c =
     let fields = c.args.fields.now in
     record {
-      entry = entry_behind (Says Net) fields
-          (code c.in_ok-network.network ∷ words c.in_ok-description.description ∷ time_value c.in_ok-start.start ∷ end_value c.in_ok-start.end ∷ [])
+      spellable = spellable_behind (Says Net) fields
+          (code c.in_ok-network.network ∷ words c.in_ok-description.description ∷ time_value c.in_ok-start.field-0.start ∷ end_value c.in_ok-start.field-0.end ∷ [])
           (c.in_ok-network.ensures.value, (c.in_ok-description.ensures.value, (c.in_ok-start.ensures.value.0, (c.in_ok-start.ensures.value.1.0, tt)))) (c.is_after.ensures.0 c.if-not-is_after.false);
     }
 
@@ -49,5 +49,5 @@ returns-clause-value c =
     let fields = c.args.fields.now in
     let count : length c.args.fields.now ≡ 4 = omega (arith, c.in-len4.len_at_least, c.in-len4.len_below) in
     spelled_behind (Says Net) fields
-    (code c.in_ok-network.network ∷ words c.in_ok-description.description ∷ time_value c.in_ok-start.start ∷ end_value c.in_ok-start.end ∷ [])
+    (code c.in_ok-network.network ∷ words c.in_ok-description.description ∷ time_value c.in_ok-start.field-0.start ∷ end_value c.in_ok-start.field-0.end ∷ [])
     count (c.in_ok-network.ensures.value, (c.in_ok-description.ensures.value, (c.in_ok-start.ensures.value.0, (c.in_ok-start.ensures.value.1.0, tt)))) (c.is_after.ensures.0 c.if-not-is_after.false)

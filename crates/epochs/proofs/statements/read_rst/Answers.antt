@@ -1,11 +1,11 @@
 use Rattle.std.proofs.Common.{rules, arith, ◌≡◌, ◌∷◌, [], length}
 use Rattle.std.proofs.lemmas.Result.{err_from_is_err_and}
 use Rattle.channel_globs.specs.declared.nslc.Part.TheVariants.{Network, Station, Location, Channel}
-use Rattle.epochs.specs.declared.kinds.Kind.TheVariants.{Rst}
+use Rattle.epochs.specs.declared.kinds.LineKind.TheVariants.{Rst}
 use Rattle.epochs.specs.declared.kinds.Head.TheVariants.{Says}
 use Rattle.epochs.specs.Kinds.{Time, End, PatternsOf}
 use Rattle.epochs.specs.Values.{glob_value, time_value, end_value}
-use Rattle.epochs.proofs.LadderSteps.{backward_behind, entry_behind, group_among, refused_behind, some_from, spelled_behind}
+use Rattle.epochs.proofs.LadderSteps.{backward_behind, spellable_behind, group_among, refused_behind, some_from, spelled_behind}
 use Rattle.epochs.proofs.statements.read_rst.Goals as goal
 
 pub returns-in_err-start-clause-refused : goal.returns-in_err-start-clause-refused
@@ -14,7 +14,7 @@ returns-in_err-start-clause-refused c =
     let count : length c.args.fields.now ≡ 6 = omega (arith, c.in-len6.len_at_least, c.in-len6.len_below) in
     let p = err_from_is_err_and c.from_residual-in_err-start.result c.from_residual-in_err-start.ensures.1 in
     let bad = group_among (PatternsOf Network ∷ PatternsOf Station ∷ PatternsOf Location ∷ PatternsOf Channel ∷ []) (Time ∷ End ∷ []) [] 2 (some_from fields 0 4) (some_from fields 4 2) (some_from fields 6 0)
-    (glob_value c.in_ok-network.network ∷ glob_value c.in_ok-network.station ∷ glob_value c.in_ok-network.location ∷ glob_value c.in_ok-network.channel ∷ []) c.in_err-start.field-0.0 (c.in_ok-network.ensures.value.0, (c.in_ok-network.ensures.value.1.0, (c.in_ok-network.ensures.value.1.1.0, (c.in_ok-network.ensures.value.1.1.1.0, tt)))) c.in_err-start.ensures.refused in
+    (glob_value c.in_ok-network.field-0.network ∷ glob_value c.in_ok-network.field-0.station ∷ glob_value c.in_ok-network.field-0.location ∷ glob_value c.in_ok-network.field-0.channel ∷ []) c.in_err-start.field-0.0 (c.in_ok-network.ensures.value.0, (c.in_ok-network.ensures.value.1.0, (c.in_ok-network.ensures.value.1.1.0, (c.in_ok-network.ensures.value.1.1.1.0, tt)))) c.in_err-start.ensures.refused in
     rw (p.1, p.2) (refused_behind (Says Rst) fields c.in_err-start.field-0.0 count bad)
 
 pub returns-then-not-is_after-clause-refused : goal.returns-then-not-is_after-clause-refused
@@ -22,15 +22,15 @@ returns-then-not-is_after-clause-refused c =
     let fields = c.args.fields.now in
     let count : length c.args.fields.now ≡ 6 = omega (arith, c.in-len6.len_at_least, c.in-len6.len_below) in
     backward_behind (Says Rst) fields
-    (glob_value c.in_ok-network.network ∷ glob_value c.in_ok-network.station ∷ glob_value c.in_ok-network.location ∷ glob_value c.in_ok-network.channel ∷ time_value c.in_ok-start.start ∷ end_value c.in_ok-start.end ∷ [])
+    (glob_value c.in_ok-network.field-0.network ∷ glob_value c.in_ok-network.field-0.station ∷ glob_value c.in_ok-network.field-0.location ∷ glob_value c.in_ok-network.field-0.channel ∷ time_value c.in_ok-start.field-0.start ∷ end_value c.in_ok-start.field-0.end ∷ [])
     count (c.in_ok-network.ensures.value.0, (c.in_ok-network.ensures.value.1.0, (c.in_ok-network.ensures.value.1.1.0, (c.in_ok-network.ensures.value.1.1.1.0, (c.in_ok-start.ensures.value.0, (c.in_ok-start.ensures.value.1.0, tt)))))) (search rules)
 
 pub invariant_of-result : goal.invariant_of-result
 invariant_of-result c =
     let fields = c.args.fields.now in
     record {
-      entry = entry_behind (Says Rst) fields
-          (glob_value c.in_ok-network.network ∷ glob_value c.in_ok-network.station ∷ glob_value c.in_ok-network.location ∷ glob_value c.in_ok-network.channel ∷ time_value c.in_ok-start.start ∷ end_value c.in_ok-start.end ∷ [])
+      spellable = spellable_behind (Says Rst) fields
+          (glob_value c.in_ok-network.field-0.network ∷ glob_value c.in_ok-network.field-0.station ∷ glob_value c.in_ok-network.field-0.location ∷ glob_value c.in_ok-network.field-0.channel ∷ time_value c.in_ok-start.field-0.start ∷ end_value c.in_ok-start.field-0.end ∷ [])
           (c.in_ok-network.ensures.value.0, (c.in_ok-network.ensures.value.1.0, (c.in_ok-network.ensures.value.1.1.0, (c.in_ok-network.ensures.value.1.1.1.0, (c.in_ok-start.ensures.value.0, (c.in_ok-start.ensures.value.1.0, tt)))))) (c.is_after.ensures.0 c.if-not-is_after.false);
     }
 
@@ -39,5 +39,5 @@ returns-clause-value c =
     let fields = c.args.fields.now in
     let count : length c.args.fields.now ≡ 6 = omega (arith, c.in-len6.len_at_least, c.in-len6.len_below) in
     spelled_behind (Says Rst) fields
-    (glob_value c.in_ok-network.network ∷ glob_value c.in_ok-network.station ∷ glob_value c.in_ok-network.location ∷ glob_value c.in_ok-network.channel ∷ time_value c.in_ok-start.start ∷ end_value c.in_ok-start.end ∷ [])
+    (glob_value c.in_ok-network.field-0.network ∷ glob_value c.in_ok-network.field-0.station ∷ glob_value c.in_ok-network.field-0.location ∷ glob_value c.in_ok-network.field-0.channel ∷ time_value c.in_ok-start.field-0.start ∷ end_value c.in_ok-start.field-0.end ∷ [])
     count (c.in_ok-network.ensures.value.0, (c.in_ok-network.ensures.value.1.0, (c.in_ok-network.ensures.value.1.1.0, (c.in_ok-network.ensures.value.1.1.1.0, (c.in_ok-start.ensures.value.0, (c.in_ok-start.ensures.value.1.0, tt)))))) (c.is_after.ensures.0 c.if-not-is_after.false)

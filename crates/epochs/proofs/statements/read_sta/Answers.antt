@@ -2,12 +2,12 @@ use Rattle.std.proofs.Common.{rules, arith, ◌≡◌, ◌∷◌, [], length}
 use Rattle.std.proofs.lemmas.Result.{err_from_is_err_and}
 use Rattle.channel_globs.specs.declared.nslc.Part.TheVariants.{Network, Station}
 use Rattle.epochs.specs.declared.quantity.Quantity.TheVariants.{Latitude, Longitude, Measure}
-use Rattle.epochs.specs.declared.kinds.Kind.TheVariants.{Sta}
+use Rattle.epochs.specs.declared.kinds.LineKind.TheVariants.{Sta}
 use Rattle.epochs.specs.declared.kinds.Head.TheVariants.{Says}
 use Rattle.epochs.specs.Kinds.{CodeOf, Words, Time, End, Required}
 use Rattle.epochs.specs.Fields.{code, words}
 use Rattle.epochs.specs.Values.{time_value, end_value, number_value}
-use Rattle.epochs.proofs.LadderSteps.{backward_behind, entry_behind, field_among, group_among, refused_behind, some_from, spelled_behind, text_at}
+use Rattle.epochs.proofs.LadderSteps.{backward_behind, spellable_behind, field_among, group_among, refused_behind, some_from, spelled_behind, text_at}
 use Rattle.epochs.proofs.statements.read_sta.Goals as goal
 
 pub returns-in_err-station-clause-refused : goal.returns-in_err-station-clause-refused
@@ -34,7 +34,7 @@ returns-in_err-site-clause-refused c =
     let count : length c.args.fields.now ≡ 8 = omega (arith, c.in-len8.len_at_least, c.in-len8.len_below) in
     let p = err_from_is_err_and c.from_residual-in_err-site.result c.from_residual-in_err-site.ensures.1 in
     let bad = field_among (CodeOf Network ∷ CodeOf Station ∷ Required Latitude ∷ Required Longitude ∷ Required Measure ∷ []) Words (Time ∷ End ∷ []) 2 (some_from fields 0 5) (text_at fields 5) (some_from fields 6 2)
-    (code c.in_ok-network.network ∷ code c.in_ok-station.station ∷ number_value c.in_ok-latitude.latitude ∷ number_value c.in_ok-latitude.longitude ∷ number_value c.in_ok-latitude.elevation ∷ []) c.in_err-site.field-0.0 (c.in_ok-network.ensures.value, (c.in_ok-station.ensures.value, (c.in_ok-latitude.ensures.value.0, (c.in_ok-latitude.ensures.value.1.0, (c.in_ok-latitude.ensures.value.1.1.0, tt))))) c.in_err-site.ensures.refused in
+    (code c.in_ok-network.network ∷ code c.in_ok-station.station ∷ number_value c.in_ok-latitude.field-0.latitude ∷ number_value c.in_ok-latitude.field-0.longitude ∷ number_value c.in_ok-latitude.field-0.elevation ∷ []) c.in_err-site.field-0.0 (c.in_ok-network.ensures.value, (c.in_ok-station.ensures.value, (c.in_ok-latitude.ensures.value.0, (c.in_ok-latitude.ensures.value.1.0, (c.in_ok-latitude.ensures.value.1.1.0, tt))))) c.in_err-site.ensures.refused in
     rw (p.1, p.2) (refused_behind (Says Sta) fields c.in_err-site.field-0.0 count bad)
 
 pub returns-in_err-start-clause-refused : goal.returns-in_err-start-clause-refused
@@ -43,7 +43,7 @@ returns-in_err-start-clause-refused c =
     let count : length c.args.fields.now ≡ 8 = omega (arith, c.in-len8.len_at_least, c.in-len8.len_below) in
     let p = err_from_is_err_and c.from_residual-in_err-start.result c.from_residual-in_err-start.ensures.1 in
     let bad = group_among (CodeOf Network ∷ CodeOf Station ∷ Required Latitude ∷ Required Longitude ∷ Required Measure ∷ Words ∷ []) (Time ∷ End ∷ []) [] 2 (some_from fields 0 6) (some_from fields 6 2) (some_from fields 8 0)
-    (code c.in_ok-network.network ∷ code c.in_ok-station.station ∷ number_value c.in_ok-latitude.latitude ∷ number_value c.in_ok-latitude.longitude ∷ number_value c.in_ok-latitude.elevation ∷ words c.in_ok-site.site ∷ []) c.in_err-start.field-0.0 (c.in_ok-network.ensures.value, (c.in_ok-station.ensures.value, (c.in_ok-latitude.ensures.value.0, (c.in_ok-latitude.ensures.value.1.0, (c.in_ok-latitude.ensures.value.1.1.0, (c.in_ok-site.ensures.value, tt)))))) c.in_err-start.ensures.refused in
+    (code c.in_ok-network.network ∷ code c.in_ok-station.station ∷ number_value c.in_ok-latitude.field-0.latitude ∷ number_value c.in_ok-latitude.field-0.longitude ∷ number_value c.in_ok-latitude.field-0.elevation ∷ words c.in_ok-site.site ∷ []) c.in_err-start.field-0.0 (c.in_ok-network.ensures.value, (c.in_ok-station.ensures.value, (c.in_ok-latitude.ensures.value.0, (c.in_ok-latitude.ensures.value.1.0, (c.in_ok-latitude.ensures.value.1.1.0, (c.in_ok-site.ensures.value, tt)))))) c.in_err-start.ensures.refused in
     rw (p.1, p.2) (refused_behind (Says Sta) fields c.in_err-start.field-0.0 count bad)
 
 pub returns-then-not-is_after-clause-refused : goal.returns-then-not-is_after-clause-refused
@@ -51,15 +51,15 @@ returns-then-not-is_after-clause-refused c =
     let fields = c.args.fields.now in
     let count : length c.args.fields.now ≡ 8 = omega (arith, c.in-len8.len_at_least, c.in-len8.len_below) in
     backward_behind (Says Sta) fields
-    (code c.in_ok-network.network ∷ code c.in_ok-station.station ∷ number_value c.in_ok-latitude.latitude ∷ number_value c.in_ok-latitude.longitude ∷ number_value c.in_ok-latitude.elevation ∷ words c.in_ok-site.site ∷ time_value c.in_ok-start.start ∷ end_value c.in_ok-start.end ∷ [])
+    (code c.in_ok-network.network ∷ code c.in_ok-station.station ∷ number_value c.in_ok-latitude.field-0.latitude ∷ number_value c.in_ok-latitude.field-0.longitude ∷ number_value c.in_ok-latitude.field-0.elevation ∷ words c.in_ok-site.site ∷ time_value c.in_ok-start.field-0.start ∷ end_value c.in_ok-start.field-0.end ∷ [])
     count (c.in_ok-network.ensures.value, (c.in_ok-station.ensures.value, (c.in_ok-latitude.ensures.value.0, (c.in_ok-latitude.ensures.value.1.0, (c.in_ok-latitude.ensures.value.1.1.0, (c.in_ok-site.ensures.value, (c.in_ok-start.ensures.value.0, (c.in_ok-start.ensures.value.1.0, tt)))))))) (search rules)
 
 pub invariant_of-result : goal.invariant_of-result
 invariant_of-result c =
     let fields = c.args.fields.now in
     record {
-      entry = entry_behind (Says Sta) fields
-          (code c.in_ok-network.network ∷ code c.in_ok-station.station ∷ number_value c.in_ok-latitude.latitude ∷ number_value c.in_ok-latitude.longitude ∷ number_value c.in_ok-latitude.elevation ∷ words c.in_ok-site.site ∷ time_value c.in_ok-start.start ∷ end_value c.in_ok-start.end ∷ [])
+      spellable = spellable_behind (Says Sta) fields
+          (code c.in_ok-network.network ∷ code c.in_ok-station.station ∷ number_value c.in_ok-latitude.field-0.latitude ∷ number_value c.in_ok-latitude.field-0.longitude ∷ number_value c.in_ok-latitude.field-0.elevation ∷ words c.in_ok-site.site ∷ time_value c.in_ok-start.field-0.start ∷ end_value c.in_ok-start.field-0.end ∷ [])
           (c.in_ok-network.ensures.value, (c.in_ok-station.ensures.value, (c.in_ok-latitude.ensures.value.0, (c.in_ok-latitude.ensures.value.1.0, (c.in_ok-latitude.ensures.value.1.1.0, (c.in_ok-site.ensures.value, (c.in_ok-start.ensures.value.0, (c.in_ok-start.ensures.value.1.0, tt)))))))) (c.is_after.ensures.0 c.if-not-is_after.false);
     }
 
@@ -68,5 +68,5 @@ returns-clause-value c =
     let fields = c.args.fields.now in
     let count : length c.args.fields.now ≡ 8 = omega (arith, c.in-len8.len_at_least, c.in-len8.len_below) in
     spelled_behind (Says Sta) fields
-    (code c.in_ok-network.network ∷ code c.in_ok-station.station ∷ number_value c.in_ok-latitude.latitude ∷ number_value c.in_ok-latitude.longitude ∷ number_value c.in_ok-latitude.elevation ∷ words c.in_ok-site.site ∷ time_value c.in_ok-start.start ∷ end_value c.in_ok-start.end ∷ [])
+    (code c.in_ok-network.network ∷ code c.in_ok-station.station ∷ number_value c.in_ok-latitude.field-0.latitude ∷ number_value c.in_ok-latitude.field-0.longitude ∷ number_value c.in_ok-latitude.field-0.elevation ∷ words c.in_ok-site.site ∷ time_value c.in_ok-start.field-0.start ∷ end_value c.in_ok-start.field-0.end ∷ [])
     count (c.in_ok-network.ensures.value, (c.in_ok-station.ensures.value, (c.in_ok-latitude.ensures.value.0, (c.in_ok-latitude.ensures.value.1.0, (c.in_ok-latitude.ensures.value.1.1.0, (c.in_ok-site.ensures.value, (c.in_ok-start.ensures.value.0, (c.in_ok-start.ensures.value.1.0, tt)))))))) (c.is_after.ensures.0 c.if-not-is_after.false)

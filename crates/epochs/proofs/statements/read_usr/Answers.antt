@@ -1,10 +1,10 @@
 use Rattle.std.proofs.Common.{arith, ◌≡◌, ◌∷◌, [], length}
 use Rattle.std.proofs.lemmas.Result.{err_from_is_err_and}
-use Rattle.epochs.specs.declared.kinds.Kind.TheVariants.{Usr}
+use Rattle.epochs.specs.declared.kinds.LineKind.TheVariants.{Usr}
 use Rattle.epochs.specs.declared.kinds.Head.TheVariants.{Says}
 use Rattle.epochs.specs.Kinds.{UserName, Ha1, RoleNames}
 use Rattle.epochs.specs.Fields.{words, roles}
-use Rattle.epochs.proofs.LadderSteps.{entry_behind, field_among, refused_behind, some_from, spelled_behind, text_at}
+use Rattle.epochs.proofs.LadderSteps.{spellable_behind, field_among, refused_behind, some_from, spelled_behind, text_at}
 use Rattle.epochs.proofs.statements.read_usr.Goals as goal
 
 pub returns-in_err-ha1-clause-refused : goal.returns-in_err-ha1-clause-refused
@@ -29,7 +29,7 @@ pub invariant_of-result : goal.invariant_of-result
 invariant_of-result c =
     let fields = c.args.fields.now in
     record {
-      entry = entry_behind (Says Usr) fields
+      spellable = spellable_behind (Says Usr) fields
           (words c.in_ok-name.name ∷ words c.in_ok-ha1.ha1 ∷ roles c.in_ok-roles.roles ∷ [])
           (c.in_ok-name.ensures.value, (c.in_ok-ha1.ensures.value, (c.in_ok-roles.ensures.value, tt))) tt;
     }

@@ -7,7 +7,8 @@ use Rattle.query_words.specs.Extracts.{limit_word, IsMade}
 use Rattle.query_words.proofs.OneDataGet.{only_read, only_refused}
 use Rattle.query_words.proofs.OneGet.{words_refused}
 use Rattle.query_words.specs.DataGet.{IsBackwards}
-use Rattle.query_words.specs.Rows.{data_rows}
+use Rattle.query_words.specs.Gets.{LacksNone}
+use Rattle.query_words.specs.Rows.{data_names}
 use Rattle.query_words.proofs.SaidWords.{few_enough, asked, turned}
 use Rattle.query_words.proofs.get.data_get.Goals as goal
 
@@ -15,7 +16,7 @@ pub returns-in_err-words-clause-exact : goal.returns-in_err-words-clause-exact
 returns-in_err-words-clause-exact c =
     let p = err_from_is_err_and c.from_residual.result c.from_residual.ensures.1 in
     let few = few_enough _ _ c.has_too_many.ensures c.if-has_too_many.false in
-    let refused = words_refused data_rows IsBackwards c.args.query.now few c.in_err-words.field-0.0 (rw c.data_rows.ensures at c.in_err-words.ensures.refused) in
+    let refused = words_refused data_names LacksNone IsBackwards c.args.query.now few c.in_err-words.field-0.0 (rw c.data_names.ensures at c.in_err-words.ensures.refused) in
     elim (only_refused c.args.query.now c.in_err-words.field-0.0 refused) [
       | inl starved ↦ inl (p.1 ∙ ap Err (p.2 ∙ starved))
       | inr only ↦ inr (rw (p.1, p.2) only)
@@ -24,7 +25,7 @@ returns-in_err-words-clause-exact c =
 pub returns-then-is_backwards-clause-exact : goal.returns-then-is_backwards-clause-exact
 returns-then-is_backwards-clause-exact c =
     let few = few_enough _ _ c.has_too_many.ensures c.if-has_too_many.false in
-    let read = rw c.data_rows.ensures at c.in_ok-words.ensures.words in
+    let read = rw c.data_names.ensures at c.in_ok-words.ensures.words in
     let start = c.limit_in-start.ensures ∙ ap limit_word (get_or_read c.in_ok-words.words.items 0 c.index.result.now (omega (arith, read.held.size)) c.index.ensures None) in
     let end = c.limit_in-end.ensures ∙ ap limit_word (get_or_read c.in_ok-words.words.items 1 c.index-2.result.now (omega (arith, read.held.size)) c.index-2.ensures None) in
     let order = turned c.args.query.now c.in_ok-words.words.items few read _ _ start end (sym c.is_backwards.ensures ∙ c.if-is_backwards.true) in
@@ -36,7 +37,7 @@ returns-then-is_backwards-clause-exact c =
 pub returns-clause-query : goal.returns-clause-query
 returns-clause-query c =
     let few = few_enough _ _ c.has_too_many.ensures c.if-has_too_many.false in
-    let read = rw c.data_rows.ensures at c.in_ok-words.ensures.words in
+    let read = rw c.data_names.ensures at c.in_ok-words.ensures.words in
     let start = c.limit_in-start.ensures ∙ ap limit_word (get_or_read c.in_ok-words.words.items 0 c.index.result.now (omega (arith, read.held.size)) c.index.ensures None) in
     let end = c.limit_in-end.ensures ∙ ap limit_word (get_or_read c.in_ok-words.words.items 1 c.index-2.result.now (omega (arith, read.held.size)) c.index-2.ensures None) in
     let selection = c.in_ok-selection.selection in
@@ -50,7 +51,7 @@ returns-clause-query c =
 pub returns-clause-exact : goal.returns-clause-exact
 returns-clause-exact c =
     let few = few_enough _ _ c.has_too_many.ensures c.if-has_too_many.false in
-    let read = rw c.data_rows.ensures at c.in_ok-words.ensures.words in
+    let read = rw c.data_names.ensures at c.in_ok-words.ensures.words in
     let start = c.limit_in-start.ensures ∙ ap limit_word (get_or_read c.in_ok-words.words.items 0 c.index.result.now (omega (arith, read.held.size)) c.index.ensures None) in
     let end = c.limit_in-end.ensures ∙ ap limit_word (get_or_read c.in_ok-words.words.items 1 c.index-2.result.now (omega (arith, read.held.size)) c.index-2.ensures None) in
     let selection = c.in_ok-selection.selection in

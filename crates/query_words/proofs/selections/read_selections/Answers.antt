@@ -2,7 +2,7 @@ use Rattle.std.proofs.Common.{◌+◌, ◌∷◌, ◌++◌, [], List, map, take,
 use Rattle.dataselect.specs.declared.query.Selection.{Selection}
 use Rattle.query_words.specs.declared.fault.QueryFault.{QueryFault}
 use Rattle.query_words.specs.declared.lines.BodyLine.{BodyLine}
-use Rattle.query_words.specs.Bodies.{Numbered, seen, AreSelections}
+use Rattle.query_words.specs.Bodies.{Numbered, numbered_line, AreSelections}
 use Rattle.query_words.specs.Selecting.{line_fault, RefusesRest}
 use Rattle.query_words.proofs.FrontSteps.{cut_before, one_more}
 use Rattle.query_words.proofs.SelectionSteps.{selections_more, rest_refused}
@@ -15,14 +15,14 @@ pub returns-in-Err-clause-refused : goal.returns-in-Err-clause-refused
 returns-in-Err-clause-refused c =
     let lines = c.args.lines.now in
     let i = c.lines.line-index in
-    let split = cut_before seen lines i no_line c.lines-test.true in
-    let refused = rest_refused (map seen (take i lines)) (seen (get_or lines i no_line)) (map seen (drop (i + 1) lines)) c.lines.selections c.lines.invariant c.in-Err.fault c.in-Err.ensures.refused in
-    subst (λ (f : QueryFault). RefusesRest (map seen lines) f) (sym c.line_fault.ensures) (subst (λ (ls : List Numbered). RefusesRest ls (line_fault c.in-Err.fault (get_or lines i no_line).number)) (sym split) refused)
+    let split = cut_before numbered_line lines i no_line c.lines-test.true in
+    let refused = rest_refused (map numbered_line (take i lines)) (numbered_line (get_or lines i no_line)) (map numbered_line (drop (i + 1) lines)) c.lines.selections c.lines.invariant c.in-Err.fault c.in-Err.ensures.refused in
+    subst (λ (f : QueryFault). RefusesRest (map numbered_line lines) f) (sym c.line_fault.ensures) (subst (λ (ls : List Numbered). RefusesRest ls (line_fault c.in-Err.fault (get_or lines i no_line).number)) (sym split) refused)
 
 pub lines-preserved : goal.lines-preserved
 lines-preserved c =
     let lines = c.args.lines.now in
     let i = c.lines.line-index in
-    let more = selections_more (map seen (take i lines)) c.lines.selections (seen (get_or lines i no_line)) c.in-Ok.selection c.lines.invariant c.in-Ok.ensures.selection in
-    let front = subst (λ (ls : List Numbered). AreSelections ls (c.lines.selections ++ c.in-Ok.selection ∷ [])) (sym (one_more seen lines i no_line c.lines-test.true)) more in
-    subst (λ (ss : List Selection). AreSelections (map seen (take (i + 1) lines)) ss) (sym c.in_ok-push-in-Ok.ensures.ok) front
+    let more = selections_more (map numbered_line (take i lines)) c.lines.selections (numbered_line (get_or lines i no_line)) c.in-Ok.selection c.lines.invariant c.in-Ok.ensures.selection in
+    let front = subst (λ (ls : List Numbered). AreSelections ls (c.lines.selections ++ c.in-Ok.selection ∷ [])) (sym (one_more numbered_line lines i no_line c.lines-test.true)) more in
+    subst (λ (ss : List Selection). AreSelections (map numbered_line (take (i + 1) lines)) ss) (sym c.in_ok-push-in-Ok.ensures.ok) front

@@ -4,7 +4,8 @@ use Rattle.std.proofs.lemmas.List.{get_or_read}
 use Rattle.std.proofs.lemmas.Result.{err_from_is_err_and}
 use Rattle.dataselect.specs.declared.query.Selection.{Selection}
 use Rattle.query_words.specs.Extracts.{limit_word, IsStationMade}
-use Rattle.query_words.specs.Rows.{station_rows}
+use Rattle.query_words.specs.Gets.{LacksNone}
+use Rattle.query_words.specs.Rows.{station_names}
 use Rattle.query_words.specs.StationGet.{IsStationTurned}
 use Rattle.query_words.specs.declared.fault.QueryFault.TheVariants.{Order}
 use Rattle.query_words.proofs.OneGet.{words_refused}
@@ -17,7 +18,7 @@ pub returns-in_err-words-clause-exact : goal.returns-in_err-words-clause-exact
 returns-in_err-words-clause-exact c =
     let p = err_from_is_err_and c.from_residual.result c.from_residual.ensures.1 in
     let few = few_enough _ _ c.has_too_many.ensures c.if-has_too_many.false in
-    let refused = words_refused station_rows IsStationTurned c.args.query.now few c.in_err-words.field-0.0 (rw c.station_rows.ensures at c.in_err-words.ensures.refused) in
+    let refused = words_refused station_names LacksNone IsStationTurned c.args.query.now few c.in_err-words.field-0.0 (rw c.station_names.ensures at c.in_err-words.ensures.refused) in
     elim (only_refused c.args.query.now c.in_err-words.field-0.0 refused) [
       | inl starved ↦ inl (p.1 ∙ ap Err (p.2 ∙ starved))
       | inr only ↦ inr (rw (p.1, p.2) only)
@@ -26,7 +27,7 @@ returns-in_err-words-clause-exact c =
 pub returns-then-is_backwards-clause-refused : goal.returns-then-is_backwards-clause-refused
 returns-then-is_backwards-clause-refused c =
     let few = few_enough _ _ c.has_too_many.ensures c.if-has_too_many.false in
-    let read = rw c.station_rows.ensures at c.in_ok-words.ensures.words in
+    let read = rw c.station_names.ensures at c.in_ok-words.ensures.words in
     let start = c.limit_in-start.ensures ∙ ap limit_word (get_or_read c.in_ok-words.words.items 0 c.index.result.now (omega (arith, read.held.size)) c.index.ensures None) in
     let end = c.limit_in-end.ensures ∙ ap limit_word (get_or_read c.in_ok-words.words.items 1 c.index-2.result.now (omega (arith, read.held.size)) c.index-2.ensures None) in
     let options = rw c.deref.ensures.value at c.station_options_in-options.ensures in
@@ -37,7 +38,7 @@ returns-then-is_backwards-clause-refused c =
 pub returns-then-is_backwards-clause-exact : goal.returns-then-is_backwards-clause-exact
 returns-then-is_backwards-clause-exact c =
     let few = few_enough _ _ c.has_too_many.ensures c.if-has_too_many.false in
-    let read = rw c.station_rows.ensures at c.in_ok-words.ensures.words in
+    let read = rw c.station_names.ensures at c.in_ok-words.ensures.words in
     let start = c.limit_in-start.ensures ∙ ap limit_word (get_or_read c.in_ok-words.words.items 0 c.index.result.now (omega (arith, read.held.size)) c.index.ensures None) in
     let end = c.limit_in-end.ensures ∙ ap limit_word (get_or_read c.in_ok-words.words.items 1 c.index-2.result.now (omega (arith, read.held.size)) c.index-2.ensures None) in
     let options = rw c.deref.ensures.value at c.station_options_in-options.ensures in
@@ -48,7 +49,7 @@ returns-then-is_backwards-clause-exact c =
 pub returns-then-not-is_area_in_order-clause-refused : goal.returns-then-not-is_area_in_order-clause-refused
 returns-then-not-is_area_in_order-clause-refused c =
     let few = few_enough _ _ c.has_too_many.ensures c.if-has_too_many.false in
-    let read = rw c.station_rows.ensures at c.in_ok-words.ensures.words in
+    let read = rw c.station_names.ensures at c.in_ok-words.ensures.words in
     let start = c.limit_in-start.ensures ∙ ap limit_word (get_or_read c.in_ok-words.words.items 0 c.index.result.now (omega (arith, read.held.size)) c.index.ensures None) in
     let end = c.limit_in-end.ensures ∙ ap limit_word (get_or_read c.in_ok-words.words.items 1 c.index-2.result.now (omega (arith, read.held.size)) c.index-2.ensures None) in
     let options = rw c.deref.ensures.value at c.station_options_in-options.ensures in
@@ -58,7 +59,7 @@ returns-then-not-is_area_in_order-clause-refused c =
 pub returns-then-not-is_area_in_order-clause-exact : goal.returns-then-not-is_area_in_order-clause-exact
 returns-then-not-is_area_in_order-clause-exact c =
     let few = few_enough _ _ c.has_too_many.ensures c.if-has_too_many.false in
-    let read = rw c.station_rows.ensures at c.in_ok-words.ensures.words in
+    let read = rw c.station_names.ensures at c.in_ok-words.ensures.words in
     let start = c.limit_in-start.ensures ∙ ap limit_word (get_or_read c.in_ok-words.words.items 0 c.index.result.now (omega (arith, read.held.size)) c.index.ensures None) in
     let end = c.limit_in-end.ensures ∙ ap limit_word (get_or_read c.in_ok-words.words.items 1 c.index-2.result.now (omega (arith, read.held.size)) c.index-2.ensures None) in
     let options = rw c.deref.ensures.value at c.station_options_in-options.ensures in
@@ -68,7 +69,7 @@ returns-then-not-is_area_in_order-clause-exact c =
 pub returns-clause-query : goal.returns-clause-query
 returns-clause-query c =
     let few = few_enough _ _ c.has_too_many.ensures c.if-has_too_many.false in
-    let read = rw c.station_rows.ensures at c.in_ok-words.ensures.words in
+    let read = rw c.station_names.ensures at c.in_ok-words.ensures.words in
     let start = c.limit_in-start.ensures ∙ ap limit_word (get_or_read c.in_ok-words.words.items 0 c.index.result.now (omega (arith, read.held.size)) c.index.ensures None) in
     let end = c.limit_in-end.ensures ∙ ap limit_word (get_or_read c.in_ok-words.words.items 1 c.index-2.result.now (omega (arith, read.held.size)) c.index-2.ensures None) in
     let options = rw c.deref.ensures.value at c.station_options_in-options.ensures in
@@ -84,7 +85,7 @@ returns-clause-query c =
 pub returns-clause-exact : goal.returns-clause-exact
 returns-clause-exact c =
     let few = few_enough _ _ c.has_too_many.ensures c.if-has_too_many.false in
-    let read = rw c.station_rows.ensures at c.in_ok-words.ensures.words in
+    let read = rw c.station_names.ensures at c.in_ok-words.ensures.words in
     let start = c.limit_in-start.ensures ∙ ap limit_word (get_or_read c.in_ok-words.words.items 0 c.index.result.now (omega (arith, read.held.size)) c.index.ensures None) in
     let end = c.limit_in-end.ensures ∙ ap limit_word (get_or_read c.in_ok-words.words.items 1 c.index-2.result.now (omega (arith, read.held.size)) c.index-2.ensures None) in
     let options = rw c.deref.ensures.value at c.station_options_in-options.ensures in

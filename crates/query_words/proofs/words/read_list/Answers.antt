@@ -1,6 +1,6 @@
 use Rattle.std.proofs.Common.{sym, subst}
-use Rattle.query_words.specs.declared.rows.Kind.TheVariants.{Patterns}
-use Rattle.query_words.specs.declared.words.WordFault.{WordFault}
+use Rattle.query_words.specs.declared.rows.ValueKind.TheVariants.{Patterns}
+use Rattle.query_words.specs.declared.words.ValueFault.{ValueFault}
 use Rattle.query_words.specs.Words.{CannotRead}
 use Rattle.query_words.proofs.Minimums.{refused_list}
 use Rattle.query_words.proofs.words.read_list.Goals as goal
@@ -8,5 +8,5 @@ use Rattle.query_words.proofs.words.read_list.Goals as goal
 pub returns-in-Err : goal.returns-in-Err
 returns-in-Err c = record {
   list = tt;
-  refused = subst (λ (fault : WordFault). CannotRead (Patterns c.args.part) c.args.text.now fault) (sym c.list_fault.ensures) (refused_list c.args.part c.args.text.now c.in-Err.fault c.in-Err.ensures.refused);
+  refused = subst (λ (fault : ValueFault). CannotRead (Patterns c.args.part) c.args.text.now fault) (sym c.list_fault.ensures) (refused_list c.args.part c.args.text.now c.in-Err.fault c.in-Err.ensures.refused);
 }

@@ -5,6 +5,6 @@ use Rattle.station_text.specs.Lines.{line_at}
 use Rattle.station_text.proofs.Asking.{epochs_asked}
 use Rattle.station_text.proofs.answers.answer.Goals as goal
 
-pub text_of-requires : goal.text_of-requires
-text_of-requires c =
+pub answer_text-requires : goal.answer_text-requires
+answer_text-requires c =
     epochs_asked c.args.catalog.now c.args.query.now c.as_slice.result.now (ap (λ (lines : List (Bor Line)). map line_at lines) c.as_slice.ensures ∙ c.in_ok-asked.ensures)

@@ -1,13 +1,13 @@
 use Rattle.std.proofs.Common.{◌∙◌, sym}
 use Rattle.epochs.specs.declared.line.Line.TheVariants.{Net}
-use Rattle.epochs.specs.Lines.{Entry}
-use Rattle.epochs.specs.Views.{seen}
+use Rattle.epochs.specs.Lines.{LineValues}
+use Rattle.epochs.specs.Views.{values_of_line}
 use Rattle.station_text.specs.Asked.{is_inner_station, stations_of}
 use Rattle.station_text.proofs.Inside.{any_seen, or_second}
 use Rattle.station_text.proofs.asked.has_station.Goals as goal
 
 pub returns-else-takes_all_stations : goal.returns-else-takes_all_stations
 returns-else-takes_all_stations c =
-    let e : Entry = seen (Net c.args.network.now) in
+    let e : LineValues = values_of_line (Net c.args.network.now) in
     or_second _ _ _ (sym c.takes_all_stations.ensures ∙ c.if-takes_all_stations.false)
     (any_seen (is_inner_station c.args.catalog.now c.args.area.now c.args.selection.now e) c.family.result.now (stations_of e c.args.catalog.now) c.has_inner_station.result c.family.ensures c.has_inner_station.ensures)

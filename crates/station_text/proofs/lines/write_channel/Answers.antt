@@ -1,11 +1,11 @@
 use Rattle.channel_globs.specs.declared.nslc.Part.TheVariants.{Network, Station, Location, Channel}
-use Rattle.epochs.proofs.EntryWord.{entry_has}
+use Rattle.epochs.proofs.SpellableWord.{spellable_has}
 use Rattle.station_text.proofs.Printable.{code_ascii, writable, writable_end}
 use Rattle.station_text.proofs.lines.write_channel.Goals as goal
 
 pub write_columns-requires : goal.write_columns-requires
 write_columns-requires c =
-    let values = (entry_has _ c.args.channel.now.entry).values_are in
+    let values = (spellable_has _ c.args.channel.now.spellable).values_are in
     let behind = values.1.1.1.1.1.1.1.1.1.1.1.1.1.1.1 in (
       code_ascii Network _ values.0,
       (

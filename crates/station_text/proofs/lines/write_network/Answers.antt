@@ -1,9 +1,9 @@
 use Rattle.channel_globs.specs.declared.nslc.Part.TheVariants.{Network}
-use Rattle.epochs.proofs.EntryWord.{entry_has}
+use Rattle.epochs.proofs.SpellableWord.{spellable_has}
 use Rattle.station_text.proofs.Printable.{code_ascii, writable, writable_end}
 use Rattle.station_text.proofs.lines.write_network.Goals as goal
 
 pub write_columns-requires : goal.write_columns-requires
 write_columns-requires c =
-    let values = (entry_has _ c.args.network.now.entry).values_are in
+    let values = (spellable_has _ c.args.network.now.spellable).values_are in
     (code_ascii Network c.args.network.now.network values.0, (tt, (writable _ values.1.1.0, (writable_end _ values.1.1.1.0, (tt, tt)))))

@@ -9,7 +9,7 @@ returns-clause-kept g c =
     let j = c.self.inside in
     subst (λ (v : Opened g.row.D.Denot). d.tells v.disk ≡ true → Keeps d.may_leave v) c.self.view_is
     (λ tells. record {
-      counted = count_now d.tells d.seen d.may_leave d.faults j.disk j.opened.value j.offsets.items j.end j.stopped c.self.invariant tells;
-      running = images_running d.tells d.seen d.may_leave d.faults j.disk j.opened.value j.offsets.items j.end j.stopped c.self.invariant tells;
-      halted = images_halted d.tells d.seen d.may_leave d.faults j.disk j.opened.value j.offsets.items j.end j.stopped c.self.invariant tells;
+      counted = count_now d.tells d.content d.may_leave d.faults j.disk j.opened.value j.offsets.items j.end j.stopped c.self.invariant tells;
+      running = images_running d.tells d.content d.may_leave d.faults j.disk j.opened.value j.offsets.items j.end j.stopped c.self.invariant tells;
+      halted = images_halted d.tells d.content d.may_leave d.faults j.disk j.opened.value j.offsets.items j.end j.stopped c.self.invariant tells;
     })

@@ -2,7 +2,7 @@ use Rattle.std.proofs.Common.{◌≡◌, ◌∙◌, ◌+◌, sym, subst, arith, 
 use Rattle.disk_model.specs.Disk.{Leaves, AlwaysLeaves}
 use Rattle.disk_model.proofs.Moments.{weakened}
 use Rattle.archive_journal.specs.Frames.{Holds, HoldsWithOrWithout}
-use Rattle.archive_journal.specs.Journal.{Opened, first_payloads, IsJournalWithOrWithout, IsKept}
+use Rattle.archive_journal.specs.Journal.{Opened, first_payloads, IsJournalWithOrWithout, IsOpenJournal}
 use Rattle.archive_journal.proofs.Kept.{length-placed, first_payloads-more, holds_either, kept_halted, kept_running, found_added, added_payloads, found_holds, found_count}
 use Rattle.archive_journal.proofs.journal.Journal.commit.Goals as goal
 
@@ -17,10 +17,10 @@ invariant_of-self g c =
     let d = g.D.Disk in
     let j = c.self.inside in
     let new = c.add_frame.new.disk in
-    let ps = first_payloads (length j.offsets.items) (d.seen j.disk) in
+    let ps = first_payloads (length j.offsets.items) (d.content j.disk) in
     let told = λ (tells : d.tells new ≡ true). sym c.add_frame.ensures.tells ∙ tells in
     let settled = λ (tells : d.tells new ≡ true). c.self.invariant.settled (told tells) c.if-self.false in
-    kept_halted d.tells d.seen d.may_leave d.faults new j.opened.value j.offsets.items j.end c.self.invariant.fits (g.met.D.Disk.reads new) ps c.args.frame.now
+    kept_halted d.tells d.content d.may_leave d.faults new j.opened.value j.offsets.items j.end c.self.invariant.fits (g.met.D.Disk.reads new) ps c.args.frame.now
     (λ tells. (settled tells).placed)
     (λ tells. c.add_frame.ensures.now ps (told tells) (settled tells).journal (settled tells).placed.end_is)
     (omega (arith, c.in_err-add_frame.ensures.cause.failed, c.self.invariant.later))
@@ -32,7 +32,7 @@ returns-in_err-add_frame-clause-any_moment g c =
     let j = c.self.inside in
     let p = c.args.frame.now in
     let new = c.add_frame.new.disk in
-    let ps = first_payloads (length j.offsets.items) (d.seen j.disk) in
+    let ps = first_payloads (length j.offsets.items) (d.content j.disk) in
     subst (λ (v : Opened g.row.D.Denot). d.tells v.disk ≡ true → v.stopped ≡ false → AlwaysLeaves d.moment d.left_since v.disk new (HoldsWithOrWithout v.payloads p)) c.self.view_is
     (λ tells on.
     let settled = c.self.invariant.settled tells on in
@@ -43,7 +43,7 @@ returns-in_err-add_frame-clause-left g c =
     let d = g.D.Disk in
     let j = c.self.inside in
     let p = c.args.frame.now in
-    let ps = first_payloads (length j.offsets.items) (d.seen j.disk) in
+    let ps = first_payloads (length j.offsets.items) (d.content j.disk) in
     subst (λ (v : Opened g.row.D.Denot). d.tells v.disk ≡ true → v.stopped ≡ false → Leaves (d.may_leave c.add_frame.new.disk) (HoldsWithOrWithout v.payloads p)) c.self.view_is
     (λ tells on image now.
     let settled = c.self.invariant.settled tells on in
@@ -55,12 +55,12 @@ returns-in_err-add_frame-clause-payloads g c =
     let j = c.self.inside in
     let p = c.args.frame.now in
     let new = c.add_frame.new.disk in
-    let ps = first_payloads (length j.offsets.items) (d.seen j.disk) in
-    subst (λ (v : Opened g.row.D.Denot). d.tells v.disk ≡ true → OnErr c.from_residual.result (first_payloads (length j.offsets.items) (d.seen new) ≡ v.payloads)) c.self.view_is
+    let ps = first_payloads (length j.offsets.items) (d.content j.disk) in
+    subst (λ (v : Opened g.row.D.Denot). d.tells v.disk ≡ true → OnErr c.from_residual.result (first_payloads (length j.offsets.items) (d.content new) ≡ v.payloads)) c.self.view_is
     (λ tells.
     let settled = c.self.invariant.settled tells c.if-self.false in
-    let here = c.add_frame.ensures.now ps tells settled.journal settled.placed.end_is (d.seen new) (g.met.D.Disk.reads new (c.add_frame.ensures.tells ∙ tells)) in
-    on_err c.from_residual.result (first_payloads-more ps p (d.seen new) (length j.offsets.items) (length-placed ps j.offsets.items j.end settled.placed) here))
+    let here = c.add_frame.ensures.now ps tells settled.journal settled.placed.end_is (d.content new) (g.met.D.Disk.reads new (c.add_frame.ensures.tells ∙ tells)) in
+    on_err c.from_residual.result (first_payloads-more ps p (d.content new) (length j.offsets.items) (length-placed ps j.offsets.items j.end settled.placed) here))
 
 -- after Ok
 pub invariant_of-self-2 : goal.invariant_of-self-2
@@ -70,13 +70,13 @@ invariant_of-self-2 g c =
     let p = c.args.frame.now in
     let new = c.add_frame.new.disk in
     let offsets = c.push_reserved.new.self.items in
-    let ps = first_payloads (length j.offsets.items) (d.seen j.disk) in
+    let ps = first_payloads (length j.offsets.items) (d.content j.disk) in
     let told = λ (tells : d.tells new ≡ true). sym c.add_frame.ensures.tells ∙ tells in
     let size : j.end + c.size.result ≡ j.end + (length p + 5) = omega (arith, c.size.ensures) in
-    subst (λ (e : ℕ). IsKept d.tells d.seen d.may_leave d.faults new j.opened.value offsets e false) (sym size)
-    (kept_running d.tells d.seen d.may_leave d.faults new j.opened.value offsets (j.end + (length p + 5)) (omega (arith, c.in_ok-add_frame.ensures.size))
+    subst (λ (e : ℕ). IsOpenJournal d.tells d.content d.may_leave d.faults new j.opened.value offsets e false) (sym size)
+    (kept_running d.tells d.content d.may_leave d.faults new j.opened.value offsets (j.end + (length p + 5)) (omega (arith, c.in_ok-add_frame.ensures.size))
     (λ tells.
-    found_added (d.seen j.disk) (d.may_leave j.disk) ps j.offsets.items j.end (c.self.invariant.settled (told tells) c.if-self.false) p (d.seen new) offsets c.add_frame.ensures.sized (c.in_ok-add_frame.ensures.written (told tells)) c.push_reserved.ensures.items)
+    found_added (d.content j.disk) (d.may_leave j.disk) ps j.offsets.items j.end (c.self.invariant.settled (told tells) c.if-self.false) p (d.content new) offsets c.add_frame.ensures.sized (c.in_ok-add_frame.ensures.written (told tells)) c.push_reserved.ensures.items)
     (λ tells. c.in_ok-add_frame.ensures.durable (told tells))
     (omega (arith, c.add_frame.ensures.cause.later, c.self.invariant.later)))
 
@@ -86,7 +86,7 @@ returns-clause-any_moment g c =
     let j = c.self.inside in
     let p = c.args.frame.now in
     let new = c.add_frame.new.disk in
-    let ps = first_payloads (length j.offsets.items) (d.seen j.disk) in
+    let ps = first_payloads (length j.offsets.items) (d.content j.disk) in
     subst (λ (v : Opened g.row.D.Denot). d.tells v.disk ≡ true → v.stopped ≡ false → AlwaysLeaves d.moment d.left_since v.disk new (HoldsWithOrWithout v.payloads p)) c.self.view_is
     (λ tells on.
     let settled = c.self.invariant.settled tells on in
@@ -97,7 +97,7 @@ returns-clause-left g c =
     let d = g.D.Disk in
     let j = c.self.inside in
     let p = c.args.frame.now in
-    let ps = first_payloads (length j.offsets.items) (d.seen j.disk) in
+    let ps = first_payloads (length j.offsets.items) (d.content j.disk) in
     subst (λ (v : Opened g.row.D.Denot). d.tells v.disk ≡ true → v.stopped ≡ false → Leaves (d.may_leave c.add_frame.new.disk) (HoldsWithOrWithout v.payloads p)) c.self.view_is
     (λ tells on image now.
     let settled = c.self.invariant.settled tells on in
@@ -110,9 +110,9 @@ returns-clause-added g c =
     let p = c.args.frame.now in
     let new = c.add_frame.new.disk in
     let offsets = c.push_reserved.new.self.items in
-    let ps = first_payloads (length j.offsets.items) (d.seen j.disk) in
-    subst (λ (v : Opened g.row.D.Denot). d.tells v.disk ≡ true → first_payloads (length offsets) (d.seen new) ≡ v.payloads ++ p ∷ []) c.self.view_is
-    (λ tells. added_payloads (d.seen j.disk) (d.may_leave j.disk) ps j.offsets.items j.end (c.self.invariant.settled tells c.if-self.false) p (d.seen new) offsets c.add_frame.ensures.sized (c.in_ok-add_frame.ensures.written tells) c.push_reserved.ensures.items)
+    let ps = first_payloads (length j.offsets.items) (d.content j.disk) in
+    subst (λ (v : Opened g.row.D.Denot). d.tells v.disk ≡ true → first_payloads (length offsets) (d.content new) ≡ v.payloads ++ p ∷ []) c.self.view_is
+    (λ tells. added_payloads (d.content j.disk) (d.may_leave j.disk) ps j.offsets.items j.end (c.self.invariant.settled tells c.if-self.false) p (d.content new) offsets c.add_frame.ensures.sized (c.in_ok-add_frame.ensures.written tells) c.push_reserved.ensures.items)
 
 pub returns-clause-durable : goal.returns-clause-durable
 returns-clause-durable g c =
@@ -121,11 +121,11 @@ returns-clause-durable g c =
     let p = c.args.frame.now in
     let new = c.add_frame.new.disk in
     let offsets = c.push_reserved.new.self.items in
-    let ps = first_payloads (length j.offsets.items) (d.seen j.disk) in
-    subst (λ (v : Opened g.row.D.Denot). d.tells v.disk ≡ true → Leaves (d.may_leave new) (Holds (first_payloads (length offsets) (d.seen new)))) c.self.view_is
+    let ps = first_payloads (length j.offsets.items) (d.content j.disk) in
+    subst (λ (v : Opened g.row.D.Denot). d.tells v.disk ≡ true → Leaves (d.may_leave new) (Holds (first_payloads (length offsets) (d.content new)))) c.self.view_is
     (λ tells image left.
-    let found = found_added (d.seen j.disk) (d.may_leave j.disk) ps j.offsets.items j.end (c.self.invariant.settled tells c.if-self.false) p (d.seen new) offsets c.add_frame.ensures.sized (c.in_ok-add_frame.ensures.written tells) c.push_reserved.ensures.items in
-    subst (Holds (first_payloads (length offsets) (d.seen new))) (sym (c.in_ok-add_frame.ensures.durable tells image left)) (found_holds (d.seen new) offsets (j.end + (length p + 5)) found))
+    let found = found_added (d.content j.disk) (d.may_leave j.disk) ps j.offsets.items j.end (c.self.invariant.settled tells c.if-self.false) p (d.content new) offsets c.add_frame.ensures.sized (c.in_ok-add_frame.ensures.written tells) c.push_reserved.ensures.items in
+    subst (Holds (first_payloads (length offsets) (d.content new))) (sym (c.in_ok-add_frame.ensures.durable tells image left)) (found_holds (d.content new) offsets (j.end + (length p + 5)) found))
 
 pub returns-clause-last : goal.returns-clause-last
 returns-clause-last g c =
@@ -134,8 +134,8 @@ returns-clause-last g c =
     let p = c.args.frame.now in
     let new = c.add_frame.new.disk in
     let offsets = c.push_reserved.new.self.items in
-    let ps = first_payloads (length j.offsets.items) (d.seen j.disk) in
-    subst (λ (v : Opened g.row.D.Denot). d.tells v.disk ≡ true → c.len.result ≡ length (first_payloads (length offsets) (d.seen new))) c.self.view_is
+    let ps = first_payloads (length j.offsets.items) (d.content j.disk) in
+    subst (λ (v : Opened g.row.D.Denot). d.tells v.disk ≡ true → c.len.result ≡ length (first_payloads (length offsets) (d.content new))) c.self.view_is
     (λ tells.
-    let found = found_added (d.seen j.disk) (d.may_leave j.disk) ps j.offsets.items j.end (c.self.invariant.settled tells c.if-self.false) p (d.seen new) offsets c.add_frame.ensures.sized (c.in_ok-add_frame.ensures.written tells) c.push_reserved.ensures.items in
-    c.len.ensures ∙ c.push_reserved.new.self.ok.0 ∙ found_count (d.seen new) offsets (j.end + (length p + 5)) found)
+    let found = found_added (d.content j.disk) (d.may_leave j.disk) ps j.offsets.items j.end (c.self.invariant.settled tells c.if-self.false) p (d.content new) offsets c.add_frame.ensures.sized (c.in_ok-add_frame.ensures.written tells) c.push_reserved.ensures.items in
+    c.len.ensures ∙ c.push_reserved.new.self.ok.0 ∙ found_count (d.content new) offsets (j.end + (length p + 5)) found)

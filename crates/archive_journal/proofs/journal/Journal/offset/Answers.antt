@@ -8,10 +8,10 @@ pub returns : goal.returns
 returns g c =
     let d = g.D.Disk in
     let j = c.self.inside in
-    let payloads = first_payloads (length j.offsets.items) (d.seen j.disk) in
+    let payloads = first_payloads (length j.offsets.items) (d.content j.disk) in
     subst (λ (v : Opened g.row.D.Denot). d.tells v.disk ≡ true → c.index.result.now ≡ gate_of v.payloads c.args.n) c.self.view_is
     (λ tells.
-    let count = count_now d.tells d.seen d.may_leave d.faults j.disk j.opened.value j.offsets.items j.end j.stopped c.self.invariant tells in
-    let placed = placed_now d.tells d.seen d.may_leave d.faults j.disk j.opened.value j.offsets.items j.end j.stopped c.self.invariant tells in
+    let count = count_now d.tells d.content d.may_leave d.faults j.disk j.opened.value j.offsets.items j.end j.stopped c.self.invariant tells in
+    let placed = placed_now d.tells d.content d.may_leave d.faults j.disk j.opened.value j.offsets.items j.end j.stopped c.self.invariant tells in
     let inside : c.args.n - 1 < length payloads = omega (arith, c.requires, ap (λ (v : Opened g.row.D.Denot). v.count) c.self.view_is, count) in
     c.index.ensures ∙ gate_at payloads j.offsets.items j.end placed (c.args.n - 1) c.index.result.now inside)

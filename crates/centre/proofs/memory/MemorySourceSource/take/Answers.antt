@@ -1,7 +1,8 @@
-use Rattle.std.proofs.Common.{◌≡◌, ◌+◌, ◌≤◌, length, arith, ◌∙◌, sym, ap, take, drop, ◌++◌, length-drop, List, ℕ, ◌-◌, get_or}
+use Rattle.std.proofs.Common.{◌≡◌, ◌+◌, ◌≤◌, length, arith, ◌∙◌, sym, ap, take, drop, ◌++◌, length-drop, List, ℕ, ◌-◌, get_or, min, subst}
 use Rattle.std.proofs.lemmas.Grind.{common_steps}
-use Rattle.centre.specs.Memory.{bytes_left}
-use Rattle.centre.proofs.Pieces.{skipped, gave, given_part}
+use Rattle.centre.specs.Memory.{bytes_left, pieces_left, GivesPiece}
+use Rattle.centre.proofs.Counting.{not_listed}
+use Rattle.centre.proofs.Pieces.{skipped, gave, given_part, piece_skipped, piece_given, none_given}
 use Rattle.centre.proofs.memory.MemorySourceSource.take.Goals as goal
 
 pub returns-then-self-piece-clause-bytes : goal.returns-then-self-piece-clause-bytes
@@ -22,6 +23,42 @@ returns-then-self-piece-clause-bytes c =
       λ none some. absurd (omega arith),
     )
 
+pub returns-then-self-piece-clause-piece : goal.returns-then-self-piece-clause-piece
+returns-then-self-piece-clause-piece c =
+    let s = c.spent.self in
+    let p = c.index-as_slice-self.result in
+    let n = c.give-count.result in
+    let d = c.as_slice-piece.result.now in
+    let long : length d ≡ length p = ap length c.as_slice-piece.ensures in
+    let most : length (take (length d - s.from) (drop s.from d)) ≡ length p - s.from = grind (arith, common_steps, length-drop s.from d) in
+    let count : n ≡ min (length p - s.from) (length c.args.into.now) = omega (arith, most, c.give-count.ensures.count, c.spent.auto.into) in
+    let item : p ≡ get_or s.pieces s.at p = rw c.as_slice-in-spent.ensures at c.index-as_slice-self.is in
+    subst (λ (qs : List (List ℕ)). GivesPiece qs (pieces_left s.pieces s.at (s.from + n)) n (length c.args.into.now)) c.spent.invariant.pieces
+    (piece_given s.pieces s.at s.from n (length c.args.into.now) p (omega arith) item (omega arith) count)
+
+pub returns-then-self-piece-clause-count : goal.returns-then-self-piece-clause-count
+returns-then-self-piece-clause-count c = record {
+  counted = c.spent.invariant.calls ∙ c.saturating_add-self.ensures;
+  same_numbers = c.spent.invariant.fails;
+  fails = (
+    λ is. absurd (cc),
+    λ listed. absurd (not_listed c.spent.self.calls c.saturating_add-self.result c.args.self.now.fails c.as_slice.result.now c.contains.result c.contains.ensures.value c.if-contains.false c.as_slice.ensures c.spent.invariant.calls listed),
+  );
+}
+
+pub returns-clause-piece : goal.returns-clause-piece
+returns-clause-piece c = none_given c.spent.self.pieces _ c.spent.self.at c.spent.self.from (length c.args.into.now) (omega arith) c.spent.invariant.pieces
+
+pub returns-clause-count : goal.returns-clause-count
+returns-clause-count c = record {
+  counted = c.spent.invariant.calls ∙ c.saturating_add-self.ensures;
+  same_numbers = c.spent.invariant.fails;
+  fails = (
+    λ is. absurd (cc),
+    λ listed. absurd (not_listed c.spent.self.calls c.saturating_add-self.result c.args.self.now.fails c.as_slice.result.now c.contains.result c.contains.ensures.value c.if-contains.false c.as_slice.ensures c.spent.invariant.calls listed),
+  );
+}
+
 pub spent-preserved : goal.spent-preserved
 spent-preserved c =
     let s = c.spent.self in
@@ -29,4 +66,11 @@ spent-preserved c =
     let size : length c.as_slice-piece.result.now ≡ length p = ap length c.as_slice-piece.ensures in
     let item : p ≡ get_or s.pieces s.at p = rw c.as_slice-in-spent.ensures at c.index-as_slice-self.is in
     let step = skipped s.pieces s.at s.from p (omega arith) item (omega (arith, size)) in
-    record { left = rw size (step ∙ c.spent.invariant.left); faults = c.spent.invariant.faults }
+    let piece = piece_skipped s.pieces s.at s.from p (omega arith) item (omega (arith, size)) in
+    record {
+      left = rw size (step ∙ c.spent.invariant.left);
+      pieces = rw size (piece ∙ c.spent.invariant.pieces);
+      faults = c.spent.invariant.faults;
+      calls = c.spent.invariant.calls;
+      fails = c.spent.invariant.fails;
+    }

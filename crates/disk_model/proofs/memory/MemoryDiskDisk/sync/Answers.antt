@@ -7,8 +7,8 @@ returns-in-Ok-clause-durable c =
     let changed = same_then_changed Synced c.args.self.now c.is_failing.new.self c.settle.new.self c.is_failing.ensures.same c.in-Ok.ensures.ok in
     sync_only c.args.self.now c.settle.new.self changed
 
-pub returns-in-Ok-clause-seen : goal.returns-in-Ok-clause-seen
-returns-in-Ok-clause-seen c =
+pub returns-in-Ok-clause-content : goal.returns-in-Ok-clause-content
+returns-in-Ok-clause-content c =
     let changed = same_then_changed Synced c.args.self.now c.is_failing.new.self c.settle.new.self c.is_failing.ensures.same c.in-Ok.ensures.ok in
     sync_seen c.args.self.now c.settle.new.self changed
 

@@ -1,6 +1,6 @@
 use Rattle.std.proofs.Common.{length}
-use Rattle.disk_model.specs.declared.change.Change.TheVariants.{Wrote}
-use Rattle.disk_model.proofs.MemoryCalls.{same_then_changed, changed_time, wrote_seen, wrote_torn, tear_failed, tear_torn, tear_time}
+use Rattle.disk_model.specs.declared.change.Change.TheVariants.{Wrote, Tore}
+use Rattle.disk_model.proofs.MemoryCalls.{same_then_changed, changed_time, wrote_seen, wrote_torn, torn_change, tear_failed, tear_torn}
 use Rattle.disk_model.proofs.memory.MemoryDiskDisk.write_at.Goals as goal
 
 pub returns-in-Ok-clause-written : goal.returns-in-Ok-clause-written
@@ -22,10 +22,13 @@ returns-in-Ok-clause-time c =
     changed_time change c.args.self.now c.write.new.self changed
 
 pub returns-then-is_failing-clause-failed : goal.returns-then-is_failing-clause-failed
-returns-then-is_failing-clause-failed c = tear_failed c.args.at (length c.args.bytes.now) c.args.self.now c.is_failing-is_failing.new.self c.tear.new.self c.refuse-then-is_failing.new.self c.tear.result c.is_failing-is_failing.ensures.same c.tear.ensures.ok c.tear.ensures.err c.refuse-then-is_failing.ensures.same
+returns-then-is_failing-clause-failed c = tear_failed c.args.at (length c.args.bytes.now) c.args.self.now c.is_failing-is_failing.new.self c.tear.new.self c.refuse-then-is_failing.new.self c.is_failing-is_failing.ensures.same c.tear.ensures.torn c.refuse-then-is_failing.ensures.same
 
 pub returns-then-is_failing-clause-crash : goal.returns-then-is_failing-clause-crash
-returns-then-is_failing-clause-crash c = tear_torn c.args.at (length c.args.bytes.now) c.args.self.now c.is_failing-is_failing.new.self c.tear.new.self c.refuse-then-is_failing.new.self c.tear.result c.is_failing-is_failing.ensures.same c.tear.ensures.ok c.tear.ensures.err c.refuse-then-is_failing.ensures.same c.requires
+returns-then-is_failing-clause-crash c = tear_torn c.args.at (length c.args.bytes.now) c.args.self.now c.is_failing-is_failing.new.self c.tear.new.self c.refuse-then-is_failing.new.self c.is_failing-is_failing.ensures.same c.tear.ensures.torn c.refuse-then-is_failing.ensures.same c.requires
 
 pub returns-then-is_failing-clause-time : goal.returns-then-is_failing-clause-time
-returns-then-is_failing-clause-time c = tear_time c.args.at (length c.args.bytes.now) c.args.self.now c.is_failing-is_failing.new.self c.tear.new.self c.refuse-then-is_failing.new.self c.tear.result c.is_failing-is_failing.ensures.same c.tear.ensures.ok c.tear.ensures.err c.refuse-then-is_failing.ensures.same c.refuse-then-is_failing.ensures.rises
+returns-then-is_failing-clause-time c =
+    let change = Tore c.args.at (length c.args.bytes.now) in
+    let changed = torn_change c.args.at (length c.args.bytes.now) c.args.self.now c.is_failing-is_failing.new.self c.tear.new.self c.refuse-then-is_failing.new.self c.is_failing-is_failing.ensures.same c.tear.ensures.torn c.refuse-then-is_failing.ensures.same in
+    changed_time change c.args.self.now c.refuse-then-is_failing.new.self changed

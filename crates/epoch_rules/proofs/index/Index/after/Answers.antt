@@ -1,10 +1,10 @@
 use Rattle.std.proofs.Common.{◌≡◌, ◌∙◌, ◌+◌, ◌++◌, List, map, drop, sym, ap, subst}
 use Rattle.std.proofs.lemmas.List.{drop_all}
-use Rattle.epochs.specs.Lines.{Entry}
-use Rattle.epochs.specs.Views.{seen}
+use Rattle.epochs.specs.Lines.{LineValues}
+use Rattle.epochs.specs.Views.{values_of_line}
 use Rattle.epochs.specs.declared.line.Line.{Line}
 use Rattle.epoch_rules.specs.Catalog.{IsCatalog}
-use Rattle.epoch_rules.specs.Indexes.{IsIndex}
+use Rattle.epoch_rules.specs.Indexes.{IsCatalogIndex}
 use Rattle.epoch_rules.specs.Kept.{AreKept}
 use Rattle.epoch_rules.specs.LiveLines.{live_lines}
 use Rattle.epoch_rules.specs.Outlines.{outlined}
@@ -18,21 +18,21 @@ lines-preserved c =
     let before = outlined c.lines.outline in
     let lines = c.args.lines.now in
     let line = c.line-item.result in
-    let all = live_lines (map seen c.args.live.now ++ map seen lines) in
-    let rest = map seen (drop (c.lines.line-index + 1) lines) in
+    let all = live_lines (map values_of_line c.args.live.now ++ map values_of_line lines) in
+    let rest = map values_of_line (drop (c.lines.line-index + 1) lines) in
     let kept = kept_here before lines c.lines.line-index line c.lines-test.true c.line-item.is c.lines.invariant.2 in
-    let after : outlined c.take.new.self ≡ with_line before (seen line) = c.in_ok-take.ensures.lines in (
+    let after : outlined c.take.new.self ≡ with_line before (values_of_line line) = c.in_ok-take.ensures.lines in (
       c.in_ok-take.ensures.outline,
-      subst IsCatalog (sym after) (kept_line before (seen line) c.lines.invariant.1 kept.0),
-      subst (λ (l : List Entry). AreKept l rest) (sym after) kept.1,
-      ap (λ (l : List Entry). live_lines (l ++ rest)) after
+      subst IsCatalog (sym after) (kept_line before (values_of_line line) c.lines.invariant.1 kept.0),
+      subst (λ (l : List LineValues). AreKept l rest) (sym after) kept.1,
+      ap (λ (l : List LineValues). live_lines (l ++ rest)) after
           ∙ taken_here before lines c.lines.line-index line all c.lines-test.true c.line-item.is c.lines.invariant.3,
     )
 
 pub returns : goal.returns
 returns c =
     let before = outlined c.lines.outline in
-    let all = live_lines (map seen c.args.live.now ++ map seen c.args.lines.now) in
-    let none = ap (λ (l : List Line). live_lines (before ++ map seen l)) (drop_all c.lines.line-index c.args.lines.now c.lines-test.false) in
+    let all = live_lines (map values_of_line c.args.live.now ++ map values_of_line c.args.lines.now) in
+    let none = ap (λ (l : List Line). live_lines (before ++ map values_of_line l)) (drop_all c.lines.line-index c.args.lines.now c.lines-test.false) in
     let same : before ≡ all = sym (taken_all before c.lines.invariant.1) ∙ sym none ∙ c.lines.invariant.3 in
-    subst (IsIndex c.lines.outline.index) same c.lines.invariant.0.indexed
+    subst (IsCatalogIndex c.lines.outline.index) same c.lines.invariant.0.indexed

@@ -1,5 +1,5 @@
 use Rattle.std.proofs.Common.{◌≡◌, ◌++◌, map, drop}
-use Rattle.epochs.specs.Views.{seen}
+use Rattle.epochs.specs.Views.{values_of_line}
 use Rattle.epoch_rules.specs.Catalog.{IsCatalog}
 use Rattle.epoch_rules.specs.Kept.{AreKept}
 use Rattle.epoch_rules.specs.LiveLines.{live_lines}
@@ -8,5 +8,5 @@ use Rattle.epoch_rules.proofs.index.Index.after.Given as goal
 
 abbrev pub invariant-lines : goal.invariant-lines
 invariant-lines l =
-    IsOutline l.outline × IsCatalog (outlined l.outline) × AreKept (outlined l.outline) (map seen (drop l.line-index l.lines))
-    × (live_lines (outlined l.outline ++ map seen (drop l.line-index l.lines)) ≡ live_lines (map seen l.live ++ map seen l.lines))
+    IsOutline l.outline × IsCatalog (outlined l.outline) × AreKept (outlined l.outline) (map values_of_line (drop l.line-index l.lines))
+    × (live_lines (outlined l.outline ++ map values_of_line (drop l.line-index l.lines)) ≡ live_lines (map values_of_line l.live ++ map values_of_line l.lines))

@@ -1,6 +1,6 @@
 use Rattle.std.proofs.Common.{◌≡◌, ◌∙◌, not, length, nat_lt, sym}
 use Rattle.std.specs.List.{list_any}
-use Rattle.epochs.specs.Views.{seen}
+use Rattle.epochs.specs.Views.{values_of_line}
 use Rattle.epoch_rules.specs.Outlines.{outlined}
 use Rattle.epoch_rules.specs.Rules.{is_operator, is_orphan, most_lines, with_line}
 use Rattle.epoch_rules.proofs.CommonRule.{ladder, orphans_are}
@@ -9,7 +9,7 @@ use Rattle.epoch_rules.proofs.outline.Outline.common_rule.Goals as goal
 
 pub returns-then-makes_orphans : goal.returns-then-makes_orphans
 returns-then-makes_orphans c =
-    let e = seen c.args.line.now in
+    let e = values_of_line c.args.line.now in
     let live = outlined c.args.self.now in
     let after = with_line live e in
     let made : list_any (is_orphan after) after ≡ c.makes_orphans.result = orphans_are live e c.requires.catalog (all_tidy c.args.self.now.lines.entries) (tidy c.args.line.now) c.requires.none ∙ sym c.makes_orphans.ensures in
@@ -17,7 +17,7 @@ returns-then-makes_orphans c =
 
 pub returns-then-lacks_operator : goal.returns-then-lacks_operator
 returns-then-lacks_operator c =
-    let e = seen c.args.line.now in
+    let e = values_of_line c.args.line.now in
     let live = outlined c.args.self.now in
     let after = with_line live e in
     let made : list_any (is_orphan after) after ≡ c.makes_orphans.result = orphans_are live e c.requires.catalog (all_tidy c.args.self.now.lines.entries) (tidy c.args.line.now) c.requires.none ∙ sym c.makes_orphans.ensures in
@@ -25,7 +25,7 @@ returns-then-lacks_operator c =
 
 pub returns-then-are_too_many : goal.returns-then-are_too_many
 returns-then-are_too_many c =
-    let e = seen c.args.line.now in
+    let e = values_of_line c.args.line.now in
     let live = outlined c.args.self.now in
     let after = with_line live e in
     let made : list_any (is_orphan after) after ≡ c.makes_orphans.result = orphans_are live e c.requires.catalog (all_tidy c.args.self.now.lines.entries) (tidy c.args.line.now) c.requires.none ∙ sym c.makes_orphans.ensures in
@@ -33,7 +33,7 @@ returns-then-are_too_many c =
 
 pub returns-else-are_too_many : goal.returns-else-are_too_many
 returns-else-are_too_many c =
-    let e = seen c.args.line.now in
+    let e = values_of_line c.args.line.now in
     let live = outlined c.args.self.now in
     let after = with_line live e in
     let made : list_any (is_orphan after) after ≡ c.makes_orphans.result = orphans_are live e c.requires.catalog (all_tidy c.args.self.now.lines.entries) (tidy c.args.line.now) c.requires.none ∙ sym c.makes_orphans.ensures in

@@ -1,6 +1,6 @@
 use Rattle.std.proofs.Common.{◌∙◌, ◌&&◌, filter, sym, ap, subst}
 use Rattle.std.specs.List.{list_any}
-use Rattle.epochs.specs.Views.{seen}
+use Rattle.epochs.specs.Views.{values_of_line}
 use Rattle.epoch_rules.specs.Neighbours.{is_below_key, is_above_key, IsLastOf, IsFirstOf}
 use Rattle.epoch_rules.specs.Outlines.{outlined}
 use Rattle.epoch_rules.specs.Rules.{is_rival}
@@ -11,7 +11,7 @@ use Rattle.epoch_rules.proofs.outline.Outline.has_rival.Goals as goal
 
 pub returns-then-is_epoch : goal.returns-then-is_epoch
 returns-then-is_epoch c =
-    let e = seen c.args.line.now in
+    let e = values_of_line c.args.line.now in
     let live = outlined c.args.self.now in
     let epoch = sym c.is_epoch.ensures ∙ c.if-is_epoch.true in
     let last = subst (λ k. IsLastOf (filter (is_below_key k) live) c.last_before.result) c.key_view-key.ensures c.last_before.ensures in

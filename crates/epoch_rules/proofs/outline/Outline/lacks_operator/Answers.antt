@@ -1,6 +1,6 @@
 use Rattle.std.proofs.Common.{◌≡◌, ◌∙◌, ◌-◌, ◌&&◌, filter, length, nat_eq, false, if◌then◌else◌, refl, eq-eqb, sym, ap, arith}
 use Rattle.std.proofs.lemmas.Bool.{eqb-true, false_from_ne_true}
-use Rattle.epochs.specs.Views.{seen}
+use Rattle.epochs.specs.Views.{values_of_line}
 use Rattle.epoch_rules.specs.Outlines.{outlined}
 use Rattle.epoch_rules.specs.Rules.{is_operator}
 use Rattle.epoch_rules.proofs.Counts.{count_others}
@@ -10,12 +10,12 @@ use Rattle.epoch_rules.proofs.outline.Outline.lacks_operator.Goals as goal
 
 pub overflow_sub-others : goal.overflow_sub-others
 overflow_sub-others c =
-    let count = count_others is_operator (seen c.args.line.now) (outlined c.args.self.now) c.requires.catalog.rises in
+    let count = count_others is_operator (values_of_line c.args.line.now) (outlined c.args.self.now) c.requires.catalog.rises in
     omega (arith, count, c.operators_replaced.ensures, c.requires.outline.indexed.counted)
 
 pub returns-then-others-eq0 : goal.returns-then-others-eq0
 returns-then-others-eq0 c =
-    let e = seen c.args.line.now in
+    let e = values_of_line c.args.line.now in
     let live = outlined c.args.self.now in
     let n = c.args.self.now.index.operators - c.operators_replaced.result in
     let count = count_others is_operator e live c.requires.catalog.rises in
@@ -24,7 +24,7 @@ returns-then-others-eq0 c =
 
 pub returns-else-others-eq0 : goal.returns-else-others-eq0
 returns-else-others-eq0 c =
-    let e = seen c.args.line.now in
+    let e = values_of_line c.args.line.now in
     let live = outlined c.args.self.now in
     let n = c.args.self.now.index.operators - c.operators_replaced.result in
     let own = if is_operator e then 1 else 0 in

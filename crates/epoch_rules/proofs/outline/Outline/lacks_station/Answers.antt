@@ -1,6 +1,6 @@
 use Rattle.std.proofs.Common.{◌∙◌, not, ◌&&◌, filter, sym, ap, subst}
 use Rattle.std.specs.List.{list_any}
-use Rattle.epochs.specs.Views.{seen}
+use Rattle.epochs.specs.Views.{values_of_line}
 use Rattle.epoch_rules.specs.Neighbours.{is_up_to_key, IsLastOf}
 use Rattle.epoch_rules.specs.Outlines.{outlined}
 use Rattle.epoch_rules.specs.Rules.{holds_channel}
@@ -10,7 +10,7 @@ use Rattle.epoch_rules.proofs.outline.Outline.lacks_station.Goals as goal
 
 pub returns-then-is_channel : goal.returns-then-is_channel
 returns-then-is_channel c =
-    let e = seen c.args.line.now in
+    let e = values_of_line c.args.line.now in
     let live = outlined c.args.self.now in
     let channel = sym c.is_channel.ensures ∙ c.if-is_channel.true in
     let last = subst (λ k. IsLastOf (filter (is_up_to_key k) live) c.last_up_to.result) c.station_key.ensures c.last_up_to.ensures in

@@ -1,6 +1,6 @@
 use Rattle.std.proofs.Common.{◌∙◌, not, ◌&&◌, refl, sym, ap}
 use Rattle.std.specs.List.{list_any}
-use Rattle.epochs.specs.Views.{seen}
+use Rattle.epochs.specs.Views.{values_of_line}
 use Rattle.epoch_rules.specs.Neighbours.{is_at_key}
 use Rattle.epoch_rules.specs.Outlines.{outlined}
 use Rattle.epoch_rules.specs.Rules.{is_grantee}
@@ -11,7 +11,7 @@ use Rattle.epoch_rules.proofs.outline.Outline.lacks_user.Goals as goal
 
 pub returns-then-is_grant : goal.returns-then-is_grant
 returns-then-is_grant c =
-    let e = seen c.args.line.now in
+    let e = values_of_line c.args.line.now in
     let live = outlined c.args.self.now in
     let grant = sym c.is_grant.ensures ∙ c.if-is_grant.true in
     ap not

@@ -1,6 +1,6 @@
 use Rattle.std.proofs.Common.{◌∙◌, ◌&&◌, inl, inr}
 use Rattle.std.specs.List.{list_any}
-use Rattle.epochs.specs.Views.{seen}
+use Rattle.epochs.specs.Views.{values_of_line}
 use Rattle.epoch_rules.specs.Endings.{is_child}
 use Rattle.epoch_rules.specs.Losses.{is_cut_in}
 use Rattle.epoch_rules.specs.Outlines.{outlined}
@@ -9,7 +9,7 @@ use Rattle.epoch_rules.proofs.outline.Outline.makes_orphans.Goals as goal
 
 pub returns-in-Some : goal.returns-in-Some
 returns-in-Some c =
-    let e = seen c.args.line.now in
+    let e = values_of_line c.args.line.now in
     let live = outlined c.args.self.now in
     elim c.in-Some.ensures [
       | inl n ↦
@@ -25,4 +25,4 @@ returns-in-Some c =
     ]
 
 pub returns-in-None : goal.returns-in-None
-returns-in-None c = c.loses_grants.ensures ∙ at_other (outlined c.args.self.now) (seen c.args.line.now) c.in-None.ensures.0 c.in-None.ensures.1
+returns-in-None c = c.loses_grants.ensures ∙ at_other (outlined c.args.self.now) (values_of_line c.args.line.now) c.in-None.ensures.0 c.in-None.ensures.1

@@ -1,5 +1,5 @@
 use Rattle.std.proofs.Common.{◌∙◌, filter, if◌then◌else◌, ap, subst}
-use Rattle.epochs.specs.Views.{seen}
+use Rattle.epochs.specs.Views.{values_of_line}
 use Rattle.epoch_rules.specs.Neighbours.{is_at_key, IsFirstOf}
 use Rattle.epoch_rules.specs.Outlines.{outlined}
 use Rattle.epoch_rules.specs.Rules.{is_operator}
@@ -8,7 +8,7 @@ use Rattle.epoch_rules.proofs.outline.Outline.operators_replaced.Goals as goal
 
 pub returns : goal.returns
 returns c =
-    let e = seen c.args.line.now in
+    let e = values_of_line c.args.line.now in
     let live = outlined c.args.self.now in
     let first = subst (λ k. IsFirstOf (filter (is_at_key k) live) c.line_at.result) c.key_view.ensures c.line_at.ensures in
     c.count_operator_there.ensures

@@ -1,6 +1,6 @@
 use Rattle.std.proofs.Common.{◌≡◌, ◌∙◌, ◌+◌, filter, length, map, if◌then◌else◌, refl, sym, ap, subst, arith}
 use Rattle.std.specs.List.{AllByRecursion}
-use Rattle.epochs.specs.Views.{seen}
+use Rattle.epochs.specs.Views.{values_of_line}
 use Rattle.epoch_rules.specs.Endings.{HoldsEnds}
 use Rattle.epoch_rules.specs.MapLines.{lines_in}
 use Rattle.epoch_rules.specs.Rules.{is_operator}
@@ -13,7 +13,7 @@ use Rattle.epoch_rules.proofs.outline.Outline.put.Goals as goal
 pub overflow_add-self : goal.overflow_add-self
 overflow_add-self c =
     let o = c.args.self.now in
-    let e = seen c.args.line.now in
+    let e = values_of_line c.args.line.now in
     let lines = ap (map line_at) c.in_ok-insert.ensures.entries ∙ put_lines _ (λ a b. refl) o.lines.entries c.requires.outline.keyed c.key_view.result c.args.line c.key_view.ensures c.requires.absent in
     let new = lines_in c.insert.new.self in
     let count : length (filter is_operator new) ≡ length (filter is_operator (lines_in o.lines)) + (if is_operator e then 1 else 0) =
@@ -31,7 +31,7 @@ returns-clause-lines c =
 pub returns-clause-outline : goal.returns-clause-outline
 returns-clause-outline c =
     let o = c.args.self.now in
-    let e = seen c.args.line.now in
+    let e = values_of_line c.args.line.now in
     let lines = ap (map line_at) c.in_ok-insert.ensures.entries ∙ put_lines _ (λ a b. refl) o.lines.entries c.requires.outline.keyed c.key_view.result c.args.line c.key_view.ensures c.requires.absent in
     let count = ap (λ l. length (filter is_operator l)) lines ∙ count_put is_operator e (lines_in o.lines) c.requires.absent in
     let keyed = subst (λ l. AllByRecursion IsKeyed l) (sym c.in_ok-insert.ensures.entries) (put_keyed _ (λ a b. refl) o.lines.entries c.key_view.result c.args.line c.requires.outline.keyed c.key_view.ensures) in

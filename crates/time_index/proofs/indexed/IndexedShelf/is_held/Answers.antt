@@ -1,7 +1,7 @@
 use Rattle.std.proofs.Common.{◌∙◌, ap, List, ℕ}
 use Rattle.std.specs.BTreeMap.{get}
 use Rattle.mseed_header.specs.declared.row.Row.{Row}
-use Rattle.dataselect.specs.Order.{name_cmp}
+use Rattle.channel_globs.specs.Names.{name_cmp}
 use Rattle.time_index.specs.declared.spot.Spot.{Spot}
 use Rattle.time_index.specs.Doubles.{is_twin}
 use Rattle.time_index.proofs.Twins.{twins_decide}

@@ -3,12 +3,12 @@ use Rattle.std.proofs.lemmas.Option.{slice_get_within}
 use Rattle.std.proofs.lemmas.Result.{IfOk-weaker}
 use Rattle.mseed_header.specs.declared.row.Row.{Row}
 use Rattle.dataselect.specs.declared.query.Selection.{Selection}
-use Rattle.time_index.specs.Windows.{Cover, is_among, candidates}
+use Rattle.time_index.specs.Windows.{Cover, is_place_among, candidates}
 use Rattle.time_index.proofs.Covers.{candidates_cover}
 use Rattle.time_index.proofs.indexed.IndexedShelf.places_to_test.Goals as goal
 
 abbrev AllBelow : ℕ → List ℕ → Type 0
-AllBelow n places = (i : ℕ) → i < n → is_among i places ≡ true
+AllBelow n places = (i : ℕ) → i < n → is_place_among i places ≡ true
 
 all_cover : (rows : List Row) (sels : List Selection) (places : List ℕ) → AllBelow (length rows) places → Cover rows sels places
 all_cover rows sels places all place row at selected = all place (slice_get_within rows place row at)
