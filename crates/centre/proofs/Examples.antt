@@ -17,7 +17,7 @@ use Rattle.dataselect.specs.declared.query.Selection.{Selection}
 use Rattle.dataselect.specs.Query.{is_selected, is_asked}
 use Rattle.dataselect.specs.Segments.{segment_length}
 use Rattle.centre.specs.Answers.{IsBodyOf, RefusesInput, IsAnswer}
-use Rattle.centre.specs.Commands.{SelectWords, select, help, version, is_position, command_of}
+use Rattle.centre.specs.Commands.{SelectWords, select, show, is_position, command_of}
 use Rattle.centre.specs.Memory.{bytes_left, pieces_left, GivesPiece, IsListed, part_for, room_behind}
 use Rattle.centre.specs.OptionsLaw.{named_value, words_of_options}
 use Rattle.centre.specs.Settled.{EndsAs, IsSettled, ComesWhere, HasWritten}
@@ -27,6 +27,7 @@ use Rattle.centre.specs.Table.{World, Stream, Tells, IsSelected, IsRun}
 use Rattle.centre.specs.Transfer.{Had, WritesPart}
 use Rattle.centre.specs.Words.{AreSelectOptions, IsSelectQuery, RefusesSelectWords, time_words, option_words}
 use Rattle.centre.proofs.OneQuery.{all_read}
+use Rattle.centre.specs.declared.help.Shown.TheVariants.{Help, Version, SelectHelp}
 use Rattle.centre.specs.declared.ending.Word.TheVariants.{Network as NetworkWord, Station as StationWord, Location as LocationWord, Channel as ChannelWord}
 use Rattle.centre.specs.declared.ending.Refusal.{Refusal}
 use Rattle.centre.specs.declared.ending.Refusal.TheVariants.{UnknownCommand, Value, Order, Record}
@@ -79,10 +80,13 @@ grew = refl
 two_words : command_of (codes "select" ∷ codes "IU" ∷ []) ≡ None
 two_words = refl
 
-help_asked : command_of (codes "--help" ∷ []) ≡ Some help
+help_asked : command_of (codes "--help" ∷ []) ≡ Some (show Help)
 help_asked = refl
 
-version_asked : IsAnswer (Some version) [] (Ok (codes "centre 0.1.0\n"))
+select_help_asked : command_of (codes "select" ∷ codes "--help" ∷ []) ≡ Some (show SelectHelp)
+select_help_asked = refl
+
+version_asked : IsAnswer (Some (show Version)) [] (Ok (codes "centre 0.1.0\n"))
 version_asked = refl
 
 -- seven words are, where none of them begins with a hyphen

@@ -10,7 +10,7 @@ use Rattle.centre.specs.Limits.{most_input}
 use Rattle.centre.specs.declared.ending.Refusal.{Refusal}
 use Rattle.centre.specs.declared.ending.Refusal.TheVariants.{UnknownCommand, Value, Order, Record, NoData, TooLarge, InputTooLong}
 use Rattle.centre.specs.Answers.{IsBodyOf, HasBadRecord, RefusesInput, IsSelectAnswer, IsAnswer, places_for, body_for, epoch}
-use Rattle.centre.specs.Commands.{SelectWords, Command, select, help, version}
+use Rattle.centre.specs.Commands.{SelectWords, Command, select, show}
 use Rattle.centre.specs.Words.{IsSelectQuery}
 use Rattle.centre.proofs.OneQuery.{one_query, no_refusal, one_refusal}
 
@@ -117,6 +117,5 @@ one_select w input (Err r) (Err s) (inr h) (inr k) = one_given w input h.0 k.0 (
 
 pub one_answer : (command : Option Command) (input : List ℕ) (a b : Result (List ℕ) Refusal) → IsAnswer command input a → IsAnswer command input b → a ≡ b
 one_answer None input a b h k = h ∙ sym k
-one_answer (Some help) input a b h k = h ∙ sym k
-one_answer (Some version) input a b h k = h ∙ sym k
+one_answer (Some (show shown)) input a b h k = h ∙ sym k
 one_answer (Some (select w)) input a b h k = one_select w input a b h k

@@ -16,9 +16,9 @@ use Rattle.centre.specs.declared.ending.Stop.{Stop}
 use Rattle.centre.specs.declared.ending.Stop.TheVariants.{Refused, ReadFault, WriteFault, OutOfMemory}
 use Rattle.centre.specs.Answers.{IsBodyOf, RefusesInput, places_for, all_seen, stop_for_data}
 use Rattle.centre.specs.Streams.{Grew}
-use Rattle.centre.specs.Commands.{SelectWords, Command, select, help, version}
+use Rattle.centre.specs.Commands.{SelectWords, Command, select, show}
+use Rattle.centre.specs.Shown.{text_shown}
 use Rattle.centre.specs.Table.{World, Stream, Tells, SelectRow, ShowRow, UnknownRow, IsEnding, ToldFor}
-use Rattle.centre.specs.declared.help.TheConstants.{HELP, VERSION}
 use Rattle.centre.specs.declared.ending.Refusal.{Refusal}
 use Rattle.centre.specs.Transfer.{Had, WritesPart}
 use Rattle.centre.specs.Intake.{AreAsked, HasTaken, IntakeStops}
@@ -99,8 +99,7 @@ told_unknown before after OutOfMemory told row e = absurd row
 
 pub told_row : (command : Option Command) (before after : World) (stop told : Stop) → IsEnding command before after (Err stop) → ToldFor stop told → IsEnding command before after (Err told)
 told_row None before after stop told row e = told_unknown before after stop told row e
-told_row (Some help) before after stop told row e = told_show HELP.now before after stop told row e
-told_row (Some version) before after stop told row e = told_show VERSION.now before after stop told row e
+told_row (Some (show shown)) before after stop told row e = told_show (text_shown shown) before after stop told row e
 told_row (Some (select w)) before after stop told row e = told_select w before after stop told row e
 
 -- what an answer says of the body

@@ -1,13 +1,13 @@
 -- From the row of a run: what words and input determine decides its status.
 use Rattle.std.proofs.Common.{◌≡◌, ◌⊎◌, inl, inr, ℕ, List, [], Option, None, Some, Result, Ok, Err, refl, sym, ap, ◌∙◌, subst, arith}
 use Rattle.exact_time.specs.Causes.{Rose}
-use Rattle.centre.specs.declared.help.TheConstants.{HELP, VERSION}
 use Rattle.centre.specs.declared.ending.Refusal.{Refusal}
 use Rattle.centre.specs.declared.ending.Refusal.TheVariants.{UnknownCommand, Value, Order, Record, NoData, TooLarge, InputTooLong}
 use Rattle.centre.specs.declared.ending.Stop.{Stop}
 use Rattle.centre.specs.declared.ending.Stop.TheVariants.{Refused, ReadFault, WriteFault, OutOfMemory}
 use Rattle.centre.specs.Answers.{IsAnswer, IsSelectAnswer, RefusesInput}
-use Rattle.centre.specs.Commands.{SelectWords, Command, select, help, version}
+use Rattle.centre.specs.Commands.{SelectWords, Command, select, show}
+use Rattle.centre.specs.Shown.{text_shown}
 use Rattle.centre.specs.Settled.{IsFree, Told, ComesWhere, IsComplete, IsCutShort, IsSettled, HasWritten, IsRefused, IsTooLarge, status_of_answer, text_of_answer}
 use Rattle.centre.specs.Status.{status_of_refusal, status_of_run, text_of_run}
 use Rattle.centre.specs.Streams.{Grew}
@@ -64,8 +64,7 @@ select_ended w input before after (Err OutOfMemory) e row = inl (inr (inr refl))
 
 ended : (command : Option Command) (input : List ℕ) (before after : World) (ending : Result (Unit {0}) Stop) → before.source.bytes ≡ Some input → IsEnding command before after ending → Ended command input ending
 ended None input before after ending e row = unknown_ended input before after ending row
-ended (Some help) input before after ending e row = show_ended (Some help) input HELP.now before after ending refl row
-ended (Some version) input before after ending e row = show_ended (Some version) input VERSION.now before after ending refl row
+ended (Some (show text)) input before after ending e row = show_ended (Some (show text)) input (text_shown text) before after ending refl row
 ended (Some (select w)) input before after ending e row = select_ended w input before after ending e row
 
 -- the answer decides
@@ -187,8 +186,7 @@ shown command text before after is output =
 -- with status 0 the sink got the answer
 pub written : (command : Option Command) (before after : World) (done : Unit {0}) → IsEnding command before after (Ok done) → HasWritten command before after
 written None before after done row = absurd row
-written (Some help) before after done row = shown (Some help) HELP.now before after (λ input. refl) row.output
-written (Some version) before after done row = shown (Some version) VERSION.now before after (λ input. refl) row.output
+written (Some (show text)) before after done row = shown (Some (show text)) (text_shown text) before after (λ input. refl) row.output
 written (Some (select w)) before after done row = record { input = row.input; body = row.body; had = row.had; answer = row.answer; output = row.output }
 
 -- with status 6 the sink got a first part of it
@@ -212,8 +210,7 @@ cut_row command before after (Err (Refused refusal)) row e = absurd ((no_fault r
 cut_row command before after (Err ReadFault) row e = absurd (omega (arith, e))
 cut_row command before after (Err OutOfMemory) row e = absurd (omega (arith, e))
 cut_row None before after (Err WriteFault) row e = absurd row
-cut_row (Some help) before after (Err WriteFault) row e = cut_shown (Some help) HELP.now before after (λ input. refl) row
-cut_row (Some version) before after (Err WriteFault) row e = cut_shown (Some version) VERSION.now before after (λ input. refl) row
+cut_row (Some (show text)) before after (Err WriteFault) row e = cut_shown (Some (show text)) (text_shown text) before after (λ input. refl) row
 cut_row (Some (select w)) before after (Err WriteFault) row e = record { input = row.input; body = row.body; had = row.had; answer = row.answer; rose = row.rose; output = row.output }
 
 pub cut_short : (command : Option Command) (before after : World) (old new : Stream) (status : ℕ) → IsRun command before after old new status → status ≡ 6 → IsCutShort command before after
@@ -225,8 +222,7 @@ rose_row command before after (Err (Refused refusal)) row e = absurd ((no_fault 
 rose_row command before after (Err WriteFault) row e = absurd (omega (arith, e))
 rose_row command before after (Err OutOfMemory) row e = absurd (omega (arith, e))
 rose_row None before after (Err ReadFault) row e = absurd row
-rose_row (Some help) before after (Err ReadFault) row e = absurd row
-rose_row (Some version) before after (Err ReadFault) row e = absurd row
+rose_row (Some (show text)) before after (Err ReadFault) row e = absurd row
 rose_row (Some (select w)) before after (Err ReadFault) row e = row.rose
 
 -- with status 5 the source failed
@@ -249,12 +245,9 @@ kept_row : (command : Option Command) (before after : World) (ending : Result (U
 kept_row command before after (Ok done) row done_not cut_not = absurd (done_not refl)
 kept_row command before after (Err WriteFault) row done_not cut_not = absurd (cut_not refl)
 kept_row None before after (Err stop) row done_not cut_not = kept_unknown before after stop row
-kept_row (Some help) before after (Err (Refused refusal)) row done_not cut_not = absurd row
-kept_row (Some help) before after (Err ReadFault) row done_not cut_not = absurd row
-kept_row (Some help) before after (Err OutOfMemory) row done_not cut_not = absurd row
-kept_row (Some version) before after (Err (Refused refusal)) row done_not cut_not = absurd row
-kept_row (Some version) before after (Err ReadFault) row done_not cut_not = absurd row
-kept_row (Some version) before after (Err OutOfMemory) row done_not cut_not = absurd row
+kept_row (Some (show text)) before after (Err (Refused refusal)) row done_not cut_not = absurd row
+kept_row (Some (show text)) before after (Err ReadFault) row done_not cut_not = absurd row
+kept_row (Some (show text)) before after (Err OutOfMemory) row done_not cut_not = absurd row
 kept_row (Some (select w)) before after (Err (Refused refusal)) (inl row) done_not cut_not = ap (λ (x : World). x.sink) row.same
 kept_row (Some (select w)) before after (Err (Refused refusal)) (inr row) done_not cut_not = row.kept
 kept_row (Some (select w)) before after (Err ReadFault) row done_not cut_not = row.kept

@@ -22,13 +22,13 @@ use Rattle.dataselect.specs.declared.query.Selection.{Selection}
 use Rattle.dataselect.specs.declared.query.Nodata.TheVariants.{Quiet}
 use Rattle.query_words.specs.Values.{quality_of, flag_of}
 use Rattle.query_words.proofs.ValuesFound.{Found, moment_found, list_found}
-use Rattle.centre.specs.declared.help.TheConstants.{HELP, VERSION}
 use Rattle.centre.specs.declared.ending.Word.{Word}
 use Rattle.centre.specs.declared.ending.Word.TheVariants as word
 use Rattle.centre.specs.declared.ending.Refusal.{Refusal}
 use Rattle.centre.specs.declared.ending.Refusal.TheVariants.{UnknownCommand, Value, Order, Record, NoData, TooLarge, InputTooLong}
 use Rattle.centre.specs.Answers.{IsSelectAnswer, IsAnswer, places_for, body_for, epoch}
-use Rattle.centre.specs.Commands.{Text, SelectWords, Command, select, help, version}
+use Rattle.centre.specs.Commands.{Text, SelectWords, Command, select, show}
+use Rattle.centre.specs.Shown.{text_shown}
 use Rattle.centre.specs.Limits.{most_input}
 use Rattle.centre.specs.Words.{IsList, IsTime, IsLength, IsSelectQuery, CanReadWord, CanReadWords, tested_words}
 
@@ -182,6 +182,5 @@ some_select w input cut =
 
 pub some_answer : (command : Option Command) (input : List ℕ) → IsCutUp input → (answer : Result (List ℕ) Refusal) × IsAnswer command input answer
 some_answer None input cut = (Err UnknownCommand, refl)
-some_answer (Some help) input cut = (Ok HELP.now, refl)
-some_answer (Some version) input cut = (Ok VERSION.now, refl)
+some_answer (Some (show shown)) input cut = (Ok (text_shown shown), refl)
 some_answer (Some (select w)) input cut = some_select w input cut

@@ -9,8 +9,8 @@ use Rattle.dataselect.specs.Rows.{held_rows}
 use Rattle.dataselect.specs.DataBody.{data_body}
 use Rattle.dataselect.specs.Picked.{picked_places}
 use Rattle.centre.specs.Limits.{most_input}
-use Rattle.centre.specs.declared.help.TheConstants.{HELP, VERSION}
-use Rattle.centre.specs.Commands.{SelectWords, Command, select, help, version}
+use Rattle.centre.specs.Commands.{SelectWords, Command, select, show}
+use Rattle.centre.specs.Shown.{text_shown}
 use Rattle.centre.specs.Words.{IsSelectQuery, RefusesSelectWords}
 use Rattle.dataselect.specs.declared.answers.DataRefusal.{DataRefusal}
 use Rattle.dataselect.specs.declared.answers.DataRefusal.TheVariants.{Empty, TooLarge as TooMuch, OutOfMemory as NoMemory}
@@ -89,6 +89,5 @@ IsSelectAnswer w input (Err refusal) =
 -- What the words and the input determine, by cases on the command: what is written, or why nothing is.
 abbrev pub IsAnswer : Option Command → List ℕ → Result (List ℕ) Refusal → Type 0
 IsAnswer None input answer = answer ≡ Err UnknownCommand
-IsAnswer (Some help) input answer = answer ≡ Ok HELP.now
-IsAnswer (Some version) input answer = answer ≡ Ok VERSION.now
+IsAnswer (Some (show shown)) input answer = answer ≡ Ok (text_shown shown)
 IsAnswer (Some (select w)) input answer = IsSelectAnswer w input answer

@@ -1,8 +1,8 @@
 -- The texts of the words that the code lends.
 use Rattle.centre.specs.declared.commands.SelectArguments.{SelectArguments}
 use Rattle.centre.specs.declared.commands.CommandWords.{CommandWords}
-use Rattle.centre.specs.declared.commands.CommandWords.TheVariants.{Select, Help, Version}
-use Rattle.centre.specs.Commands.{SelectWords, Command, select, help, version}
+use Rattle.centre.specs.declared.commands.CommandWords.TheVariants.{Select, Show}
+use Rattle.centre.specs.Commands.{SelectWords, Command, select, show}
 
 abbrev pub words_at : SelectArguments → SelectWords
 words_at a = record {
@@ -20,5 +20,4 @@ words_at a = record {
 
 abbrev pub command_at : CommandWords → Command
 command_at (Select arguments) = select (words_at arguments)
-command_at Help = help
-command_at Version = version
+command_at (Show shown) = show shown

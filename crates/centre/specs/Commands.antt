@@ -5,6 +5,8 @@ use Rattle.std.specs.Option.{option_map, is_some}
 use Rattle.std.specs.Str.{bytes_eq}
 use Rattle.query_words.specs.Gets.{text_or}
 use Rattle.query_words.specs.Values.{whole_of}
+use Rattle.centre.specs.declared.help.Shown.{Shown}
+use Rattle.centre.specs.declared.help.Shown.TheVariants.{Help, Version, SelectHelp}
 use Rattle.centre.specs.Limits.{most_bytes}
 
 abbrev pub Text : Type 0
@@ -28,8 +30,7 @@ pub record SelectWords : Type 0 where
 -- what the program can be asked to do
 pub data Command : Type 0 where
   select : SelectWords → Command
-  help : Command
-  version : Command
+  show : Shown → Command
 
 -- a word that begins with a hyphen is no position
 abbrev pub is_position : Text → Bool
@@ -90,10 +91,15 @@ select_words_of _ = None
 -- a word that is a command by itself
 abbrev pub lone_command_of : Text → Option Command
 lone_command_of word =
-    if bytes_eq word (codes "--help") then Some help
-    else (if bytes_eq word (codes "--version") then Some version else None)
+    if bytes_eq word (codes "--help") then Some (show Help)
+    else (if bytes_eq word (codes "--version") then Some (show Version) else None)
+
+-- what a word shows that stands alone behind a command's name
+abbrev pub shown_of : Text → Text → Option Command
+shown_of name word = if bytes_eq name (codes "select") && bytes_eq word (codes "--help") then Some (show SelectHelp) else None
 
 -- the words give this command, or none
 abbrev pub command_of : List Text → Option Command
 command_of (word ∷ []) = lone_command_of word
+command_of (name ∷ word ∷ []) = shown_of name word
 command_of words = option_map select (select_words_of words)

@@ -6,6 +6,7 @@ pub mod Limits
 pub mod Memory
 pub mod OptionsLaw
 pub mod Settled
+pub mod Shown
 pub mod Status
 pub mod Streams
 pub mod Table

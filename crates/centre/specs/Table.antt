@@ -3,13 +3,13 @@ use Rattle.std.specs.Prelude.{◌≡◌, ◌⊎◌, ℕ, List, Option, Some, Non
 use Rattle.std.specs.Io.KnownBytes.{IsAtEnd}
 use Rattle.exact_time.specs.Causes.{Rose}
 use Rattle.dataselect.specs.declared.query.DataQuery.{DataQuery}
-use Rattle.centre.specs.declared.help.TheConstants.{HELP, VERSION}
 use Rattle.centre.specs.declared.ending.Refusal.{Refusal}
 use Rattle.centre.specs.declared.ending.Refusal.TheVariants.{UnknownCommand, Record, TooLarge}
 use Rattle.centre.specs.declared.ending.Stop.{Stop}
 use Rattle.centre.specs.declared.ending.Stop.TheVariants.{Refused, ReadFault, WriteFault, OutOfMemory}
 use Rattle.centre.specs.Answers.{RefusesInput, IsSelectAnswer}
-use Rattle.centre.specs.Commands.{SelectWords, Command, select, help, version}
+use Rattle.centre.specs.Commands.{SelectWords, Command, select, show}
+use Rattle.centre.specs.Shown.{text_shown}
 use Rattle.centre.specs.Status.{status_of_run, text_of_run}
 use Rattle.centre.specs.Streams.{Grew}
 use Rattle.centre.specs.Transfer.{Had, WritesPart}
@@ -105,8 +105,7 @@ UnknownRow before after _ = ⊥
 -- The table, by cases on the command: how a run ends, why, and what it leaves.
 abbrev pub IsEnding : Option Command → World → World → Result (Unit {0}) Stop → Type 0
 IsEnding None before after ending = UnknownRow before after ending
-IsEnding (Some help) before after ending = ShowRow HELP.now before after ending
-IsEnding (Some version) before after ending = ShowRow VERSION.now before after ending
+IsEnding (Some (show shown)) before after ending = ShowRow (text_shown shown) before after ending
 IsEnding (Some (select w)) before after ending = SelectRow w before after ending
 
 -- What a stop is told as: itself, or want of memory where a text with numbers can't be made.

@@ -3,10 +3,11 @@ ghost use Rattle.std.specs.Prelude.{◌≡◌, ◌↔◌, map, string_bytes, cod
 ghost use Rattle.std.specs.List.{list_all};
 ghost use Rattle.std.specs.Option.{option_map};
 ghost use Rattle.query_words.specs.Gets.{text_or};
-ghost use Rattle.centre.specs.Commands.{is_position, is_option, are_options, value_of, limit_of, select_words_of, lone_command_of, command_of};
+ghost use Rattle.centre.specs.Commands.{is_position, is_option, are_options, value_of, limit_of, select_words_of, lone_command_of, shown_of, command_of};
 ghost use Rattle.centre.specs.Arguments.{words_at, command_at};
 
 use crate::MAX_BYTES;
+use crate::help::Shown;
 use query_words::read_whole;
 
 /// The words of `select` behind its name: its positions, and what its options say.
@@ -29,8 +30,7 @@ pub struct SelectArguments<'a> {
 #[derive(Clone, Copy)]
 pub enum CommandWords<'a> {
     Select(SelectArguments<'a>),
-    Help,
-    Version,
+    Show(Shown),
 }
 
 // A word that begins with a hyphen is no position.
@@ -155,21 +155,34 @@ fn lone_command<'a>(word: &str) -> Option<CommandWords<'a>>
     ensures { option_map command_at result ≡ lone_command_of word.now }
 {
     if word == "--help" {
-        return Some(CommandWords::Help);
+        return Some(CommandWords::Show(Shown::Help));
     }
     if word == "--version" {
-        return Some(CommandWords::Version);
+        return Some(CommandWords::Show(Shown::Version));
     }
     None
 }
 
-/// The command that the words give: `--help` or `--version` alone, or `select` with its positions and
-/// options.
+// What a word behind a command's name, and no other, shows of that command.
+fn shown_of<'a>(name: &str, word: &str) -> Option<CommandWords<'a>>
+    ensures { option_map command_at result ≡ shown_of name.now word.now }
+{
+    if name == "select" && word == "--help" {
+        return Some(CommandWords::Show(Shown::SelectHelp));
+    }
+    None
+}
+
+/// The command that the words give: `--help` or `--version` alone, `--help` behind the name of a command, or
+/// `select` with its positions and options.
 pub fn command_in(words: &[String]) -> Option<CommandWords<'_>>
     ensures { option_map command_at result ≡ command_of (map string_bytes words.entry.now) }
 {
     if let [word] = words {
         return lone_command(word.as_str());
+    }
+    if let [name, word] = words {
+        return shown_of(name.as_str(), word.as_str());
     }
     match arguments_in(words) {
         Some(arguments) => Some(CommandWords::Select(arguments)),

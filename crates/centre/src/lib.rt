@@ -27,7 +27,7 @@ mod words;
 
 pub use adapters::{StdSink, StdSource};
 pub use ending::{Refusal, Stop, Word};
-pub use help::{HELP, VERSION};
+pub use help::{HELP, SELECT_HELP, Shown, VERSION};
 pub use law::{one_answer_at_most, options_are_named_values, some_answer};
 pub use memory::{MemorySink, MemorySource};
 pub use running::run;

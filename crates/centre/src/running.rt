@@ -9,7 +9,6 @@ ghost use Rattle.centre.specs.Table.{IsRun, IsEnding, SelectRow, ShowRow, stream
 
 use crate::commands::{CommandWords, SelectArguments, command_in};
 use crate::ending::{Refusal, Stop};
-use crate::help::{HELP, VERSION};
 use crate::intake::take_records;
 use crate::streams::{Sink, Source};
 use crate::telling::tell_stop;
@@ -88,8 +87,7 @@ fn obey<S: Source, K: Sink>(
 {
     match command_in(words) {
         None => Err(Stop::Refused(Refusal::UnknownCommand)),
-        Some(CommandWords::Help) => show(HELP, source, sink),
-        Some(CommandWords::Version) => show(VERSION, source, sink),
+        Some(CommandWords::Show(shown)) => show(shown.text(), source, sink),
         Some(CommandWords::Select(arguments)) => select(alloc, &arguments, source, sink),
     }
 }

@@ -2,7 +2,7 @@
 use super::records::{
     anmo_record, anmo_record_at, changed, little_endian_record, three_hertz_record,
 };
-use crate::{HELP, MemorySink, MemorySource, StdSink, StdSource, run};
+use crate::{HELP, MemorySink, MemorySource, SELECT_HELP, StdSink, StdSource, run};
 use exact_time::{Bytes, Many};
 use std::alloc::Global;
 use std::process::Abort;
@@ -240,9 +240,12 @@ fn refuses_words_in_order(rt: HostRuntime) -> Result<(), Fail> {
 fn shows_texts(rt: HostRuntime) -> Result<(), Fail> {
     check(&rt, &["--version"], b"", 0, b"centre 0.1.0\n", "")?;
     check(&rt, &["--help"], &anmo_record(), 0, HELP.as_bytes(), "")?;
+    let select_help = SELECT_HELP.as_bytes();
+    check(&rt, &["select", "--help"], b"", 0, select_help, "")?;
     let unknown = "centre: unknown command line\n";
     check_words(&rt, &["--help", "select"], 1, unknown)?;
     check_words(&rt, &["-h"], 1, unknown)?;
+    check_words(&rt, &["select", "--version"], 1, unknown)?;
     check_words(&rt, &[], 1, unknown)?;
     let first_write = Faults { source: 0, sink: 1 };
     check_with(
