@@ -3,6 +3,7 @@ use Rattle.std.proofs.Common.{◌≡◌, ℕ, ◌+◌, ◌-◌, ◌<◌, ◌≤�
 use Rattle.std.proofs.lemmas.List.{take_at, drop_at, drop-drop, take_more}
 use Rattle.std.proofs.lemmas.Option.{slice_get-get_or}
 use Rattle.archive_journal.specs.Frames.{magic, open_gate, body_of, frames, front_of}
+use Rattle.archive_journal.specs.Journal.{gate_of}
 use Rattle.archive_journal.proofs.FrameLists.{front_of-push, length-front_of-push}
 
 frames-append : (ps qs : List (List ℕ)) → frames (ps ++ qs) ≡ frames ps ++ frames qs
@@ -48,3 +49,8 @@ module _ (ps : List (List ℕ)) (rest : List ℕ) (k : ℕ) (inside : k < length
       ∙ sym (drop-drop 5 (length (front_of (take k ps))) (front_of (take k ps) ++ (open_gate ∷ body_of payload ++ tail)))
       ∙ ap (drop 5) (drop_at (front_of (take k ps)) (open_gate ∷ body_of payload ++ tail) (length (front_of (take k ps))) refl) in
       slice_get-get_or ps k [] inside ∙ ap Some (sym ((λ i. take (size i) (left i)) ∙ take_at payload tail (length payload) refl))
+
+-- the first gate stands behind the magic
+pub first_gate : (payloads : List (List ℕ)) → gate_of payloads 1 ≡ 16
+unfolding front_of
+first_gate payloads = refl

@@ -3,9 +3,11 @@ use Rattle.std.proofs.Common.{◌≡◌, inl, inr, ⊎_elim, ℕ, ◌+◌, ◌<�
 use Rattle.std.proofs.lemmas.List.{take_at, take_all}
 use Rattle.std.proofs.lemmas.Bool.{false≢true}
 use Rattle.exact_time.specs.Causes.{Rose}
-use Rattle.disk_model.specs.Disk.{Leaves, LeavesOnly}
+use Rattle.disk_model.specs.Disk.{Leaves}
+use Rattle.disk_model.specs.View.{DiskView, WhereTold, IsHonest, IsSynced, AlwaysLeaves}
+use Rattle.disk_model.proofs.Moments.{at_rest_now}
 use Rattle.archive_journal.specs.Frames.{magic, open_gate, body_of, reading_of, holding, front_of, IsSized, IsJournal, Holds, HoldsWithOrWithout}
-use Rattle.archive_journal.specs.Journal.{gates_from, payloads_in, first_payloads, HasGatesAt, IsJournalWithOrWithout, IsOnDisk, IsHalted, IsOpenJournal, added_to}
+use Rattle.archive_journal.specs.Journal.{gates_from, payloads_in, first_payloads, HasGatesAt, IsJournalWithOrWithout, IsOnDisk, IsHalted, IsOpenJournal, Keeps, added_to}
 use Rattle.archive_journal.specs.Faults.{ExplainsRecover}
 use Rattle.archive_journal.specs.Recovery.{IsFound, Explains}
 use Rattle.archive_journal.specs.declared.fault.RecoverFault.{RecoverFault}
@@ -34,9 +36,9 @@ first_payloads-more ps p file count is (inr journal) = ap (λ r. take count (pay
 pub holds_either : (ps : List (List ℕ)) (p : List ℕ) → Leaves (IsJournalWithOrWithout ps p) (HoldsWithOrWithout ps p)
 holds_either ps p file = ⊎_elim (λ journal. inl (reading_of-journal ps file journal)) (λ journal. inr (reading_of-journal (ps ++ p ∷ []) file journal))
 
-module _ {D : Type 0} (tells : D → Bool) (content : D → List ℕ) (may_leave : D → List ℕ → Type 0) (faults : D → ℕ) (disk opened : D) (offsets : List ℕ) (end : ℕ) (stopped : Bool) (kept : IsOpenJournal tells content may_leave faults disk opened offsets end stopped) (told : tells disk ≡ true) where
+module _ (view : DiskView) (faults : ℕ) (offsets : List ℕ) (end : ℕ) (stopped : Bool) (kept : IsOpenJournal view faults offsets end stopped) (told : view.tells ≡ true) where
   abbrev ps : List (List ℕ)
-  ps = first_payloads (length offsets) (content disk)
+  ps = first_payloads (length offsets) view.content
 
   placed_if : (b : Bool) → stopped ≡ b → HasGatesAt ps offsets end
   placed_if false is = (kept.settled told is).placed
@@ -49,24 +51,38 @@ module _ {D : Type 0} (tells : D → Bool) (content : D → List ℕ) (may_leave
   count_now = length-placed ps offsets end placed_now
 
   -- while no commit failed, every image holds the payloads
-  pub images_running : stopped ≡ false → Leaves (may_leave disk) (Holds ps)
-  images_running on image left = let s = kept.settled told on in subst (Holds ps) (sym (s.synced image left)) (reading_of-journal ps (content disk) s.journal)
+  pub images_running : stopped ≡ false → Leaves view.may_leave (Holds ps)
+  images_running on image left = let s = kept.settled told on in subst (Holds ps) (sym (s.synced image left)) (reading_of-journal ps view.content s.journal)
 
-  pub images_halted : stopped ≡ true → (hand : List ℕ) × Leaves (may_leave disk) (HoldsWithOrWithout ps hand)
+  pub images_halted : stopped ≡ true → (hand : List ℕ) × Leaves view.may_leave (HoldsWithOrWithout ps hand)
   images_halted off = let h = kept.halted told off in (h.hand, λ image left. holds_either ps h.hand image (h.either image left))
 
   -- what a read gives begins with the payloads
-  pub file_now : may_leave disk (content disk) → (rest : List ℕ) × (content disk ≡ front_of ps ++ rest)
+  pub file_now : view.may_leave view.content → (rest : List ℕ) × (view.content ≡ front_of ps ++ rest)
   file_now reads = file_if stopped refl
     where
-      file_if : (b : Bool) → stopped ≡ b → (rest : List ℕ) × (content disk ≡ front_of ps ++ rest)
+      file_if : (b : Bool) → stopped ≡ b → (rest : List ℕ) × (view.content ≡ front_of ps ++ rest)
       file_if false is = let j = (kept.settled told is).journal in (j.gate ∷ j.rest, j.file_is)
       file_if true is =
           let h = kept.halted told is in
-          elim (h.either (content disk) reads) [
+          elim (h.either view.content reads) [
             | inl j ↦ (j.gate ∷ j.rest, j.file_is)
             | inr j ↦ (open_gate ∷ body_of h.hand ++ (j.gate ∷ j.rest), j.file_is ∙ front_of-push ps h.hand (j.gate ∷ j.rest))
           ]
+
+  -- at rest every image holds the payloads, and so it does with a payload more or without
+  pub images_at_rest : IsHonest view → stopped ≡ false → (payload : List ℕ) → AlwaysLeaves view view (HoldsWithOrWithout ps payload)
+  images_at_rest honest on payload = at_rest_now view honest (HoldsWithOrWithout ps payload) (λ image left. inl (images_running on image left))
+
+-- what an open journal keeps, over a disk that tells
+pub keeps_now : {D : Type 0} → (view : D → DiskView) (disk : D) (faults : ℕ) (offsets : List ℕ) (end spare : ℕ) (stopped : Bool) → IsHonest (view disk) → IsOpenJournal (view disk) faults offsets end stopped → (view disk).tells ≡ true
+    → Keeps view (record { disk = disk; payloads = first_payloads (length offsets) (view disk).content; count = length offsets; spare = spare; stopped = stopped; faults = faults })
+keeps_now view disk faults offsets end spare stopped honest kept told = record {
+  counted = count_now (view disk) faults offsets end stopped kept told;
+  running = images_running (view disk) faults offsets end stopped kept told;
+  rest = images_at_rest (view disk) faults offsets end stopped kept told honest;
+  halted = images_halted (view disk) faults offsets end stopped kept told;
+}
 
 -- a file in which the frames were found holds its payloads
 pub found_payloads : (file offsets : List ℕ) (end : ℕ) (found : IsFound file offsets end) → first_payloads (length offsets) file ≡ found.payloads
@@ -92,12 +108,12 @@ found_empty file offsets is none = record {
 }
 
 -- a journal to which a frame was added
-pub found_added : (content : List ℕ) (images : List ℕ → Type 0) (ps : List (List ℕ)) (offsets : List ℕ) (end : ℕ) → IsOnDisk content images ps offsets end → (p content' offsets' : List ℕ) → IsSized p → content' ≡ added_to content end p → offsets' ≡ offsets ++ end ∷ []
+pub found_added : (view : DiskView) (ps : List (List ℕ)) (offsets : List ℕ) (end : ℕ) → IsOnDisk view ps offsets end → (p content' offsets' : List ℕ) → IsSized p → content' ≡ added_to view.content end p → offsets' ≡ offsets ++ end ∷ []
     → IsFound content' offsets' (end + (length p + 5))
-found_added content images ps offsets end settled p content' offsets' sized is pushed =
+found_added view ps offsets end settled p content' offsets' sized is pushed =
     let placed = settled.placed in record {
       payloads = ps ++ p ∷ [];
-      journal = subst (IsJournal (ps ++ p ∷ [])) (sym is) (added ps content settled.journal end placed.end_is p sized);
+      journal = subst (IsJournal (ps ++ p ∷ [])) (sym is) (added ps view.content settled.journal end placed.end_is p sized);
       placed = record {
         sized = all_push IsSized ps p placed.sized sized;
         offsets_are = pushed ∙ (λ i. placed.offsets_are i ++ placed.end_is i ∷ []) ∙ sym (gates_from-push ps p);
@@ -106,32 +122,31 @@ found_added content images ps offsets end settled p content' offsets' sized is p
     }
 
 -- has that payload behind the others
-pub added_payloads : (content : List ℕ) (images : List ℕ → Type 0) (ps : List (List ℕ)) (offsets : List ℕ) (end : ℕ) → IsOnDisk content images ps offsets end → (p content' offsets' : List ℕ) → IsSized p → content' ≡ added_to content end p → offsets' ≡ offsets ++ end ∷ []
+pub added_payloads : (view : DiskView) (ps : List (List ℕ)) (offsets : List ℕ) (end : ℕ) → IsOnDisk view ps offsets end → (p content' offsets' : List ℕ) → IsSized p → content' ≡ added_to view.content end p → offsets' ≡ offsets ++ end ∷ []
     → first_payloads (length offsets') content' ≡ ps ++ p ∷ []
 unfolding found_added
-added_payloads content images ps offsets end settled p content' offsets' sized is pushed = found_payloads content' offsets' (end + (length p + 5)) (found_added content images ps offsets end settled p content' offsets' sized is pushed)
+added_payloads view ps offsets end settled p content' offsets' sized is pushed = found_payloads content' offsets' (end + (length p + 5)) (found_added view ps offsets end settled p content' offsets' sized is pushed)
 
-module _ {D : Type 0} (tells : D → Bool) (content : D → List ℕ) (may_leave : D → List ℕ → Type 0) (faults : D → ℕ) (disk opened : D) (offsets : List ℕ) (end : ℕ) where
+module _ (view : DiskView) (faults : ℕ) (offsets : List ℕ) (end : ℕ) where
   -- a journal that runs: its frames were found, and it is synced
-  pub kept_running : end < 2 ^ 63 → (tells disk ≡ true → IsFound (content disk) offsets end) → (tells disk ≡ true → LeavesOnly (may_leave disk) (content disk)) → faults opened ≤ faults disk
-      → IsOpenJournal tells content may_leave faults disk opened offsets end false
+  pub kept_running : end < 2 ^ 63 → WhereTold view (IsFound view.content offsets end) → WhereTold view (IsSynced view) → faults ≤ view.faults → IsOpenJournal view faults offsets end false
   kept_running fits found synced later = record {
     fits = fits;
-    settled = λ told on. let f = found told in subst (λ (ps : List (List ℕ)). IsOnDisk (content disk) (may_leave disk) ps offsets end) (sym (found_payloads (content disk) offsets end f)) (record { placed = f.placed; journal = f.journal; synced = synced told });
+    settled = λ told on. let f = found told in subst (λ (ps : List (List ℕ)). IsOnDisk view ps offsets end) (sym (found_payloads view.content offsets end f)) (record { placed = f.placed; journal = f.journal; synced = synced told });
     halted = λ told off. absurd (false≢true off);
     later = later;
     cause = λ off. absurd (false≢true off);
   }
 
   -- a journal that a failed commit stopped: each image is a journal of its payloads, with the one in hand or without
-  pub kept_halted : end < 2 ^ 63 → (tells disk ≡ true → may_leave disk (content disk)) → (ps : List (List ℕ)) (p : List ℕ) → (tells disk ≡ true → HasGatesAt ps offsets end) → (tells disk ≡ true → Leaves (may_leave disk) (IsJournalWithOrWithout ps p)) → Rose (faults opened) (faults disk) → faults opened ≤ faults disk
-      → IsOpenJournal tells content may_leave faults disk opened offsets end true
-  kept_halted fits reads ps p placed either cause later = record {
+  pub kept_halted : end < 2 ^ 63 → WhereTold view (IsHonest view) → (ps : List (List ℕ)) (p : List ℕ) → WhereTold view (HasGatesAt ps offsets end) → WhereTold view (Leaves view.may_leave (IsJournalWithOrWithout ps p)) → Rose faults view.faults → faults ≤ view.faults
+      → IsOpenJournal view faults offsets end true
+  kept_halted fits honest ps p placed either cause later = record {
     fits = fits;
     settled = λ told on. absurd (false≢true (sym on));
     halted = λ told off.
-        let same = first_payloads-more ps p (content disk) (length offsets) (length-placed ps offsets end (placed told)) (either told (content disk) (reads told)) in
-        subst (λ (qs : List (List ℕ)). IsHalted (may_leave disk) qs offsets end) (sym same) (record { placed = placed told; hand = p; either = either told });
+        let same = first_payloads-more ps p view.content (length offsets) (length-placed ps offsets end (placed told)) (either told view.content (honest told).reads) in
+        subst (λ (qs : List (List ℕ)). IsHalted view qs offsets end) (sym same) (record { placed = placed told; hand = p; either = either told });
     later = later;
     cause = λ off. cause;
   }

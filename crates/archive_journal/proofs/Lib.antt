@@ -2,9 +2,10 @@ pub mod FrameLists
 pub mod Adding
 pub mod Heads
 pub mod Walking
-pub mod Runs
+pub mod JournalReads
 pub mod Readings
 pub mod Describing
 pub mod Kept
+pub mod Committed
 pub mod Entries
 pub mod Examples

@@ -1,8 +1,10 @@
 -- An open journal, as contracts see it, and what its type keeps.
-use Rattle.std.specs.Prelude.{◌≡◌, ◌⊎◌, ℕ, ◌+◌, ◌-◌, ◌^◌, ◌<◌, ◌≤◌, List, [], ◌∷◌, ◌++◌, length, take, Bool, true, false, Result, Ok, Err}
+use Rattle.std.specs.Prelude.{◌≡◌, ◌⊎◌, ℕ, ◌+◌, ◌-◌, ◌^◌, ◌<◌, ◌≤◌, List, [], ◌∷◌, ◌++◌, length, take, Bool, true, false, Result, Ok, Err, OnOk, OnErr, IfOk}
 use Rattle.std.specs.List.{AllByRecursion}
 use Rattle.exact_time.specs.Causes.{Rose}
-use Rattle.disk_model.specs.Disk.{overwritten, Leaves, LeavesOnly}
+use Rattle.disk_model.specs.Disk.{overwritten, Leaves}
+use Rattle.disk_model.specs.View.{DiskView, WhereTold, IsSynced, AlwaysLeaves}
+use Rattle.disk_model.specs.Effects.{OnlyReads}
 use Rattle.archive_journal.specs.Frames.{Reading, holding, reading_of, open_gate, closed_gate, body_of, front_of, IsSized, IsJournal, Holds, HoldsWithOrWithout}
 
 -- A journal that is open: its disk, its payloads and their number, for how many more it has room, whether
@@ -25,17 +27,44 @@ abbrev pub disk_in : {D F : Type 0} → Result (Opened D) (D × F) → D
 disk_in (Ok journal) = journal.disk
 disk_in (Err refused) = refused.0
 
+-- what a call answers, without the disk that its fault gives back
+abbrev pub outcome_in : {D F : Type 0} → Result (Opened D) (D × F) → Result (Opened D) F
+outcome_in (Ok journal) = Ok journal
+outcome_in (Err refused) = Err refused.1
+
 -- a file to which a frame was added at its closed gate: the frame and the next closed gate are written
 -- behind it, and then it is opened
 abbrev pub added_to : List ℕ → ℕ → List ℕ → List ℕ
 added_to file gate payload = overwritten (overwritten file (gate + 1) (body_of payload ++ closed_gate ∷ [])) gate (open_gate ∷ [])
 
 -- What an open journal is, over a disk that tells: it counts its payloads, and a crash now leaves them; or,
--- where a commit failed, these, or these and the one that was in hand.
-pub record Keeps {D : Type 0} (may_leave : D → List ℕ → Type 0) (journal : Opened D) : Type 0 where
+-- where a commit failed, these, or these and the one that was in hand. A call that gives the disk nothing
+-- keeps at every moment what a commit of any payload would keep.
+pub record Keeps {D : Type 0} (view : D → DiskView) (journal : Opened D) : Type 0 where
   pub counted : journal.count ≡ length journal.payloads
-  pub running : journal.stopped ≡ false → Leaves (may_leave journal.disk) (Holds journal.payloads)
-  pub halted : journal.stopped ≡ true → (hand : List ℕ) × Leaves (may_leave journal.disk) (HoldsWithOrWithout journal.payloads hand)
+  pub running : journal.stopped ≡ false → Leaves (view journal.disk).may_leave (Holds journal.payloads)
+  pub rest : journal.stopped ≡ false → (payload : List ℕ) → AlwaysLeaves (view journal.disk) (view journal.disk) (HoldsWithOrWithout journal.payloads payload)
+  pub halted : journal.stopped ≡ true → (hand : List ℕ) × Leaves (view journal.disk).may_leave (HoldsWithOrWithout journal.payloads hand)
+
+-- From one moment to another a journal was only read: it has the same payloads, and gave its disk neither a
+-- write nor a sync, so that the images are the same, neither more nor fewer. What says that the disk failed
+-- is given. The relation is closed under "and then" (`proofs/JournalReads.antt`).
+pub record WasRead {D : Type 0} (view : D → DiskView) (old new : Opened D) (Failed : Type 0) : Type 0 where
+  pub disk : OnlyReads (view old.disk) (view new.disk) Failed
+  pub payloads : WhereTold (view old.disk) (new.payloads ≡ old.payloads)
+  pub same : new ≡ record old { disk = new.disk; payloads = new.payloads }
+
+-- What a commit does, over a disk that tells. Unless an earlier one had failed, at every moment since its
+-- start every image has the payloads of before, or those with this one; so it is where the disk failed, too.
+-- After Ok every image has the payload.
+pub record IsCommit {D E : Type 0} (view : D → DiskView) (payload : List ℕ) (old new : Opened D) (result : Result ℕ E) : Type 0 where
+  pub any_moment : old.stopped ≡ false → AlwaysLeaves (view old.disk) (view new.disk) (HoldsWithOrWithout old.payloads payload)
+  pub left : old.stopped ≡ false → Leaves (view new.disk).may_leave (HoldsWithOrWithout old.payloads payload)
+  pub added : OnOk result (new.payloads ≡ old.payloads ++ payload ∷ [])
+  pub durable : OnOk result (Leaves (view new.disk).may_leave (Holds new.payloads))
+  pub written : OnOk result ((view new.disk).content ≡ added_to (view old.disk).content (gate_of old.payloads (old.count + 1)) payload)
+  pub last : IfOk result (λ n. n ≡ length new.payloads)
+  pub payloads : OnErr result (new.payloads ≡ old.payloads)
 
 -- the offset of each payload's gate, where the first stands here
 abbrev pub gates_from : ℕ → List (List ℕ) → List ℕ
@@ -61,22 +90,22 @@ pub record HasGatesAt (payloads : List (List ℕ)) (offsets : List ℕ) (end : �
 abbrev pub IsJournalWithOrWithout : List (List ℕ) → List ℕ → List ℕ → Type 0
 IsJournalWithOrWithout payloads payload file = IsJournal payloads file ⊎ IsJournal (payloads ++ payload ∷ []) file
 
--- the file is a journal of these payloads, and all of it is on the disk
-pub record IsOnDisk (content : List ℕ) (images : List ℕ → Type 0) (payloads : List (List ℕ)) (offsets : List ℕ) (end : ℕ) : Type 0 where
+-- a read gives a journal of these payloads, and all of it is on the disk
+pub record IsOnDisk (view : DiskView) (payloads : List (List ℕ)) (offsets : List ℕ) (end : ℕ) : Type 0 where
   pub placed : HasGatesAt payloads offsets end
-  pub journal : IsJournal payloads content
-  pub synced : LeavesOnly images content
+  pub journal : IsJournal payloads view.content
+  pub synced : IsSynced view
 
 -- each image is a journal of these payloads, or of these and the one that was in hand when a commit failed
-pub record IsHalted (images : List ℕ → Type 0) (payloads : List (List ℕ)) (offsets : List ℕ) (end : ℕ) : Type 0 where
+pub record IsHalted (view : DiskView) (payloads : List (List ℕ)) (offsets : List ℕ) (end : ℕ) : Type 0 where
   pub placed : HasGatesAt payloads offsets end
   pub hand : List ℕ
-  pub either : Leaves images (IsJournalWithOrWithout payloads hand)
+  pub either : Leaves view.may_leave (IsJournalWithOrWithout payloads hand)
 
--- what the type of a journal keeps
-pub record IsOpenJournal {D : Type 0} (tells : D → Bool) (content : D → List ℕ) (may_leave : D → List ℕ → Type 0) (faults : D → ℕ) (disk opened : D) (offsets : List ℕ) (end : ℕ) (stopped : Bool) : Type 0 where
+-- what the type of a journal keeps of its disk, which had failed so often when it was opened
+pub record IsOpenJournal (view : DiskView) (faults : ℕ) (offsets : List ℕ) (end : ℕ) (stopped : Bool) : Type 0 where
   pub fits : end < 2 ^ 63
-  pub settled : tells disk ≡ true → stopped ≡ false → IsOnDisk (content disk) (may_leave disk) (first_payloads (length offsets) (content disk)) offsets end
-  pub halted : tells disk ≡ true → stopped ≡ true → IsHalted (may_leave disk) (first_payloads (length offsets) (content disk)) offsets end
-  pub later : faults opened ≤ faults disk
-  pub cause : stopped ≡ true → Rose (faults opened) (faults disk)
+  pub settled : WhereTold view (stopped ≡ false → IsOnDisk view (first_payloads (length offsets) view.content) offsets end)
+  pub halted : WhereTold view (stopped ≡ true → IsHalted view (first_payloads (length offsets) view.content) offsets end)
+  pub later : faults ≤ view.faults
+  pub cause : stopped ≡ true → Rose faults view.faults

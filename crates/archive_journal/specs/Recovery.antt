@@ -1,6 +1,7 @@
 -- What a recovery finds, gate by gate, and why it ends early.
-use Rattle.std.specs.Prelude.{◌≡◌, ◌≢◌, ℕ, ◌+◌, List, ◌∷◌, ◌++◌, length, Option, Some, None, Result, Ok, Err, ⊤}
-use Rattle.archive_journal.specs.Frames.{open_gate, body_of, front_of, IsSized, IsJournal, IsBroken, IsDamaged, IsNoJournal}
+use Rattle.std.specs.Prelude.{◌≡◌, ◌≢◌, ℕ, ◌+◌, List, ◌∷◌, ◌++◌, ◌≤◌, length, take, Option, Some, None, Result, Ok, Err, ⊤}
+use Rattle.disk_model.specs.View.{DiskView, IsOnlyImage}
+use Rattle.archive_journal.specs.Frames.{magic, open_gate, body_of, front_of, IsSized, IsJournal, IsBroken, IsDamaged, IsNoJournal}
 use Rattle.archive_journal.specs.Journal.{HasGatesAt}
 use Rattle.archive_journal.specs.declared.fault.RecoverFault.{RecoverFault}
 use Rattle.archive_journal.specs.declared.fault.RecoverFault.TheVariants.{DiskFault, NotAJournal, Damaged, OutOfMemory}
@@ -35,6 +36,11 @@ pub record IsFound (file offsets : List ℕ) (end : ℕ) : Type 0 where
   pub journal : IsJournal payloads file
   pub placed : HasGatesAt payloads offsets end
 
+-- the file has the magic and a gate behind it
+pub record HasMagic (file : List ℕ) : Type 0 where
+  pub long : 17 ≤ length file
+  pub begins : take 16 file ≡ magic
+
 -- so far there are whole open frames, whose gates stand there
 pub record IsWalked (file offsets : List ℕ) (at : ℕ) : Type 0 where
   pub payloads : List (List ℕ)
@@ -48,3 +54,8 @@ Explains file DiskFault = ⊤
 Explains file NotAJournal = IsNoJournal file
 Explains file (Damaged at) = IsDamaged at file
 Explains file OutOfMemory = ⊤
+
+-- Unless the disk failed, the one image is this file, also where it is no journal.
+abbrev pub IsSyncedUnlessFailed : {T : Type 0} → DiskView → List ℕ → Result T RecoverFault → Type 0
+IsSyncedUnlessFailed view file (Ok found) = IsOnlyImage view file
+IsSyncedUnlessFailed view file (Err fault) = fault ≢ DiskFault → IsOnlyImage view file

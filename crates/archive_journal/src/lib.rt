@@ -7,7 +7,9 @@
 //! it. Where the disk fails, the journal is stopped: it answers [`DiskFault`] to every further commit without
 //! a call on the disk, and every image keeps the payloads, with the one that was in hand or without.
 //! [`Journal::recover`] opens the payloads of what a read gives, after a crash too, and every image then holds
-//! these; it writes nothing. [`Journal::init`] makes a journal in an empty file. So after an `init` or a
+//! these; it writes nothing. [`Journal::read_entry`] reads a payload, and leaves the images as they were:
+//! that a journal was only read is `WasRead`, a relation of two of its moments, which goes on from read to
+//! read (`proofs/JournalReads.antt`). [`Journal::init`] makes a journal in an empty file. So after an `init` or a
 //! `recover` that answered Ok, no image that a journal's calls leave is damaged ([`RecoverFault`]); a crash
 //! inside `init` may leave anything, and it is run again on an empty file. All this is in the type: callers
 //! show lengths, numbers, and that they reserved before they commit.
@@ -38,4 +40,4 @@ mod tests;
 pub use fault::{DiskFault, InitFault, ReadFault, RecoverFault};
 pub use frame::Frame;
 pub use journal::Journal;
-pub use law::a_file_reads_in_one_way;
+pub use law::{a_file_reads_in_one_way, the_first_gate_stands_at_16};

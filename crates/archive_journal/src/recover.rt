@@ -1,9 +1,8 @@
 //! Finds the frames of a file that a crash may have left, by reading alone.
-ghost use Rattle.std.specs.Prelude.{◌≡◌, ◌≢◌, ◌+◌, ◌^◌, ◌<◌, ◌≤◌, ℕ, List, true, length, take, drop, IfOk, IfErr, IfSome, OnOk, MatchResult, IsErrOf};
-ghost use Rattle.exact_time.specs.Causes.{Rose};
-ghost use Rattle.disk_model.specs.Disk.{Leaves, LeavesOnly, AlwaysLeaves};
-ghost use Rattle.archive_journal.specs.Frames.{magic};
-ghost use Rattle.archive_journal.specs.Recovery.{IsNext, IsFound, Explains};
+ghost use Rattle.std.specs.Prelude.{◌≡◌, ◌+◌, ◌^◌, ◌<◌, ◌≤◌, ℕ, List, length, take, drop, IfOk, IfErr, IfSome, MatchResult, IsErrOf};
+ghost use Rattle.disk_model.specs.View.{WhereTold};
+ghost use Rattle.disk_model.specs.Effects.{OnlyReads, WritesNothing};
+ghost use Rattle.archive_journal.specs.Recovery.{IsNext, IsFound, Explains, HasMagic, IsSyncedUnlessFailed};
 
 use crate::fault::RecoverFault;
 use crate::frame::{LIMIT, MAGIC, OPEN};
@@ -47,16 +46,9 @@ fn next_gate(head: &[u8], at: u64, len: u64) -> Result<Option<u64>, RecoverFault
 // Reads what stands at a gate.
 fn read_gate<D: Disk>(disk: &mut D, at: u64, len: u64) -> Result<Option<u64>, RecoverFault>
     requires { at < 2 ^ 63 }
-    ensures tells { D.tells disk.new ≡ D.tells disk.old }
-    ensures next { D.tells disk.old ≡ true
-        → len ≡ length (D.content disk.old) → IsNext (drop at (D.content disk.old)) at result }
+    ensures next { WhereTold (D.view disk.old) (len ≡ length (D.view disk.old).content → IsNext (drop at (D.view disk.old).content) at result) }
     ensures bound { IfOk result (λ next. IfSome next (λ next. (at < next) × (next ≤ len))) }
-    ensures content { D.tells disk.old ≡ true → D.content disk.new ≡ D.content disk.old }
-    ensures crash { D.tells disk.old ≡ true → Leaves (D.may_leave disk.new) (D.may_leave disk.old) }
-    ensures any_moment { D.tells disk.old ≡ true
-        → AlwaysLeaves D.moment D.left_since disk.old disk.new (D.may_leave disk.old) }
-    ensures later { D.faults disk.old ≤ D.faults disk.new }
-    ensures cause { IsErrOf result RecoverFault.DiskFault → Rose (D.faults disk.old) (D.faults disk.new) }
+    ensures read { OnlyReads (D.view disk.old) (D.view disk.new) (IsErrOf result RecoverFault.DiskFault) }
 {
     let mut head = [0; 5];
     let count = disk.read(at, &mut head)?;
@@ -65,16 +57,8 @@ fn read_gate<D: Disk>(disk: &mut D, at: u64, len: u64) -> Result<Option<u64>, Re
 
 // Tests the magic, and that there is a gate behind it.
 fn check_magic<D: Disk>(disk: &mut D) -> Result<(), RecoverFault>
-    ensures tells { D.tells disk.new ≡ D.tells disk.old }
-    ensures magic { D.tells disk.old ≡ true
-        → OnOk result ((17 ≤ length (D.content disk.old)) × (take 16 (D.content disk.old) ≡ magic)) }
-    ensures fault { D.tells disk.old ≡ true → IfErr result (Explains (D.content disk.old)) }
-    ensures content { D.tells disk.old ≡ true → D.content disk.new ≡ D.content disk.old }
-    ensures crash { D.tells disk.old ≡ true → Leaves (D.may_leave disk.new) (D.may_leave disk.old) }
-    ensures any_moment { D.tells disk.old ≡ true
-        → AlwaysLeaves D.moment D.left_since disk.old disk.new (D.may_leave disk.old) }
-    ensures later { D.faults disk.old ≤ D.faults disk.new }
-    ensures cause { IsErrOf result RecoverFault.DiskFault → Rose (D.faults disk.old) (D.faults disk.new) }
+    ensures magic { WhereTold (D.view disk.old) (MatchResult result (λ _. HasMagic (D.view disk.old).content) (Explains (D.view disk.old).content)) }
+    ensures read { OnlyReads (D.view disk.old) (D.view disk.new) (IsErrOf result RecoverFault.DiskFault) }
 {
     let mut head = [0; 17];
     let count = disk.read(0, &mut head)?;
@@ -86,20 +70,12 @@ fn check_magic<D: Disk>(disk: &mut D) -> Result<(), RecoverFault>
 
 // Goes from gate to gate up to the first that is closed, in a file of `len` bytes with the magic.
 fn walk<D: Disk>(alloc: Global, disk: &mut D, len: u64) -> Result<Found, RecoverFault>
-    requires len { (len < 2 ^ 63) × (D.tells disk.old ≡ true → len ≡ length (D.content disk.old)) }
-    requires magic { D.tells disk.old ≡ true
-        → (17 ≤ length (D.content disk.old)) × (take 16 (D.content disk.old) ≡ magic) }
-    ensures tells { D.tells disk.new ≡ D.tells disk.old }
+    requires len { (len < 2 ^ 63) × WhereTold (D.view disk.old) (len ≡ length (D.view disk.old).content) }
+    requires magic { WhereTold (D.view disk.old) (HasMagic (D.view disk.old).content) }
     ensures bound { IfOk result (λ found. found.end < 2 ^ 63) }
-    ensures found { D.tells disk.old ≡ true
-        → IfOk result (λ found. IsFound (D.content disk.old) found.offsets.items found.end) }
-    ensures fault { D.tells disk.old ≡ true → IfErr result (Explains (D.content disk.old)) }
-    ensures content { D.tells disk.old ≡ true → D.content disk.new ≡ D.content disk.old }
-    ensures crash { D.tells disk.old ≡ true → Leaves (D.may_leave disk.new) (D.may_leave disk.old) }
-    ensures any_moment { D.tells disk.old ≡ true
-        → AlwaysLeaves D.moment D.left_since disk.old disk.new (D.may_leave disk.old) }
-    ensures later { D.faults disk.old ≤ D.faults disk.new }
-    ensures cause { IsErrOf result RecoverFault.DiskFault → Rose (D.faults disk.old) (D.faults disk.new) }
+    ensures found { WhereTold (D.view disk.old)
+        (MatchResult result (λ found. IsFound (D.view disk.old).content found.offsets.items found.end) (Explains (D.view disk.old).content)) }
+    ensures read { OnlyReads (D.view disk.old) (D.view disk.new) (IsErrOf result RecoverFault.DiskFault) }
 {
     let mut offsets = Vec::new(alloc);
     let mut at = MAGIC.len() as u64;
@@ -113,20 +89,11 @@ fn walk<D: Disk>(alloc: Global, disk: &mut D, len: u64) -> Result<Found, Recover
 // Syncs, and then finds the frames: unless the disk failed, what is read is on the disk, also where it is
 // no journal.
 pub(crate) fn find_frames<D: Disk>(alloc: Global, disk: &mut D) -> Result<Found, RecoverFault>
-    ensures tells { D.tells disk.new ≡ D.tells disk.old }
     ensures bound { IfOk result (λ found. found.end < 2 ^ 63) }
-    ensures found { D.tells disk.old ≡ true
-        → IfOk result (λ found. IsFound (D.content disk.old) found.offsets.items found.end) }
-    ensures synced { D.tells disk.old ≡ true
-        → MatchResult result (λ found. LeavesOnly (D.may_leave disk.new) (D.content disk.old))
-        (λ fault. fault ≢ RecoverFault.DiskFault → LeavesOnly (D.may_leave disk.new) (D.content disk.old)) }
-    ensures fault { D.tells disk.old ≡ true → IfErr result (Explains (D.content disk.old)) }
-    ensures content { D.tells disk.old ≡ true → D.content disk.new ≡ D.content disk.old }
-    ensures crash { D.tells disk.old ≡ true → Leaves (D.may_leave disk.new) (D.may_leave disk.old) }
-    ensures any_moment { D.tells disk.old ≡ true
-        → AlwaysLeaves D.moment D.left_since disk.old disk.new (D.may_leave disk.old) }
-    ensures later { D.faults disk.old ≤ D.faults disk.new }
-    ensures cause { IsErrOf result RecoverFault.DiskFault → Rose (D.faults disk.old) (D.faults disk.new) }
+    ensures found { WhereTold (D.view disk.old)
+        (MatchResult result (λ found. IsFound (D.view disk.old).content found.offsets.items found.end) (Explains (D.view disk.old).content)) }
+    ensures synced { WhereTold (D.view disk.old) (IsSyncedUnlessFailed (D.view disk.new) (D.view disk.old).content result) }
+    ensures disk { WritesNothing (D.view disk.old) (D.view disk.new) (IsErrOf result RecoverFault.DiskFault) }
 {
     disk.sync()?;
     let len = disk.len()?;

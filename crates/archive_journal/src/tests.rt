@@ -1,11 +1,15 @@
 //! The bytes of a journal, its faults, and stops at each call of a commit.
+ghost use Rattle.std.specs.Prelude.{◌≡◌};
 ghost use Rattle.archive_journal.specs.Frames.{IsSized};
 
 use crate::{DiskFault, Frame, InitFault, Journal, ReadFault, RecoverFault};
 use disk_model::{Choice, Disk, FuseDisk, MemoryDisk};
 use exact_time::{Bytes, Many, OutOfMemory};
 use std::alloc::Global;
+use std::marker::Brand;
+use std::sync::ledger::{Blank, Book, Ledger};
 use std::test::Fail;
+use std::thread::{Threads, join};
 
 // A synced disk with this file, which fails at these calls.
 fn disk_of(alloc: Global, file: &[u8], fails: &[u64]) -> Result<MemoryDisk, OutOfMemory> {
@@ -290,5 +294,35 @@ fn check_send<T: Send>(_value: &T) {}
 fn goes_to_another_thread(rt: HostRuntime) -> Result<(), Fail> {
     check_send(&new_journal(rt.alloc(), disk_of(rt.alloc(), b"", &[])?)?);
     check_send(&Frame::of(rt.alloc(), b"abc")?);
+    Ok(())
+}
+
+// A journal beside a token, as what lies under a lock holds them.
+#[derive(Drop)]
+struct Held<D: Disk, L: Ledger> {
+    journal: Journal<D>,
+    made: Book<L>,
+}
+
+// How many payloads a journal has, counted by another thread, to which it goes beside a token.
+fn count_elsewhere<L: Ledger + Send, R: Threads>(
+    rt: &R,
+    blank: Blank,
+    journal: Journal<MemoryDisk>,
+) -> u64
+    requires name { blank.name ≡ L.name }
+    requires parts { blank.parts ≡ L.parts }
+{
+    let (made, _all) = blank.open::<L>();
+    let held = Held { journal, made };
+    join(rt, move || held.journal.count(), || ()).0
+}
+
+#[test]
+fn goes_with_a_token(rt: HostRuntime) -> Result<(), Fail> {
+    let mut journal = new_journal(rt.alloc(), disk_of(rt.alloc(), b"", &[])?)?;
+    assert!(rt; add(rt.alloc(), &mut journal, b"abc")?.is_ok());
+    let count = count_elsewhere::<Brand, HostRuntime>(&rt, Blank::new(1), journal);
+    assert_eq!(rt; count, 1);
     Ok(())
 }

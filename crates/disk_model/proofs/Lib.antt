@@ -7,6 +7,7 @@ pub mod MemoryCalls
 pub mod Fills
 pub mod Moments
 pub mod Leaving
+pub mod Runs
 pub mod Marking
 pub mod ReadingOn
 pub mod Examples

@@ -1,11 +1,13 @@
 -- What one call does to a disk in memory, in a disk's words.
-use Rattle.std.proofs.Common.{◌≡◌, inl, inr, ⊎_elim, ℕ, ◌≤◌, List, [], ◌∷◌, ◌++◌, length, take, sym, ◌∙◌, ap, subst, arith}
+use Rattle.std.proofs.Common.{Ok, Err, ◌≡◌, inl, inr, ⊎_elim, ℕ, ◌≤◌, List, [], ◌∷◌, ◌++◌, length, take, sym, ◌∙◌, ap, subst, arith}
 use Rattle.std.proofs.lemmas.List.{map-append}
 use Rattle.exact_time.specs.Causes.{Rose}
-use Rattle.disk_model.specs.Disk.{overwritten, Torn, Shortened, Follows, Leaves, LeavesOnly, Elapses}
+use Rattle.disk_model.specs.Disk.{overwritten, Torn, Shortened, Follows, Leaves, LeavesOnly}
+use Rattle.disk_model.specs.View.{Elapses}
+use Rattle.disk_model.specs.Effects.{IsWrittenInto, IsShortenedTo, IsMadeDurable}
 use Rattle.disk_model.specs.Images.{IsImage}
 use Rattle.disk_model.specs.Changes.{State, at_rest, after, state_after, changes_in, LeftSince}
-use Rattle.disk_model.specs.Memory.{made_with, changes_of, content_of, state_of, images_now, images_since, moment_of, IsSame, IsChanged}
+use Rattle.disk_model.specs.Memory.{made_with, changes_of, content_of, state_of, images_now, memory_view, IsSame, IsChanged}
 use Rattle.disk_model.specs.declared.change.Change.{Change}
 use Rattle.disk_model.specs.declared.change.Change.TheVariants.{Wrote, Tore, Cut, Synced}
 use Rattle.disk_model.specs.declared.change.Step.{Step}
@@ -51,7 +53,7 @@ module _ (old new : MemoryDisk) (same : IsSame old new) where
   pub same_images : Leaves (images_now new) (images_now old)
   same_images image is = subst (λ p. images_after p image) (λ i. (same.first_is i, same.steps_are i)) is
 
-  pub same_time : Rose old.moment new.moment → Elapses moment_of images_since images_now old new
+  pub same_time : Rose old.moment new.moment → Elapses (memory_view old) (memory_view new)
   same_time rises = record {
     later = same.later;
     rises = rises;
@@ -85,7 +87,7 @@ module _ (change : Change) (old new : MemoryDisk) (changed : IsChanged change ol
   pub changed_images : (image : List ℕ) → images_now new image → IsImage (after (state_of old) change).images image
   changed_images image is = subst (λ (s : State). IsImage s.images image) changed_state is
 
-  pub changed_time : Elapses moment_of images_since images_now old new
+  pub changed_time : Elapses (memory_view old) (memory_view new)
   changed_time = record {
     later = omega (arith, changed.after, changed.by);
     rises = omega (arith, changed.after, changed.by);
@@ -143,8 +145,37 @@ module _ (at len : ℕ) (old counted torn new : MemoryDisk) (count : IsSame old 
   pub torn_change : IsChanged (Tore at len) old new
   torn_change = same_then_changed (Tore at len) old counted new count (changed_then_same (Tore at len) counted torn new tear refused)
 
-  pub tear_failed : Torn at len (content_of old) (content_of new)
-  tear_failed = subst (λ file. Torn at len (content_of old) file) (sym (tore_seen at len old new torn_change)) (torn_same at len (content_of old))
+-- The calls as what they do to what is told, once they are done.
+module _ {T E : Type 0} (x : T) (old new : MemoryDisk) where
+  pub sync_effect : IsChanged Synced old new → IsMadeDurable {E = E} (memory_view old) (memory_view new) (Ok x)
+  sync_effect changed = record {
+    durable = sync_only old new changed;
+    content = sync_seen old new changed;
+    crash = sync_images old new changed;
+    time = changed_time Synced old new changed;
+  }
 
-  pub tear_torn : at ≤ length (content_of old) → Follows (Torn at len) (images_now old) (images_now new)
-  tear_torn inside = tore_torn at len old new inside torn_change
+  pub cut_effect : (len : ℕ) → IsChanged (Cut len) old new → IsShortenedTo {E = E} len (memory_view old) (memory_view new) (Ok x)
+  cut_effect len changed = record {
+    shorter = cut_seen len old new changed;
+    failed = tt;
+    crash = cut_shortened len old new changed;
+    time = changed_time (Cut len) old new changed;
+  }
+
+  pub write_effect : (at : ℕ) (bytes : List ℕ) → at ≤ length (content_of old) → IsChanged (Wrote at bytes) old new → IsWrittenInto {E = E} at bytes (memory_view old) (memory_view new) (Ok x)
+  write_effect at bytes inside changed = record {
+    written = wrote_seen at bytes old new changed;
+    failed = tt;
+    crash = wrote_torn at bytes old new inside changed;
+    time = changed_time (Wrote at bytes) old new changed;
+  }
+
+-- a write that failed, and left a torn range
+pub tear_effect : {T E : Type 0} → (x : E) (at : ℕ) (bytes : List ℕ) (old new : MemoryDisk) → at ≤ length (content_of old) → IsChanged (Tore at (length bytes)) old new → IsWrittenInto {T = T} at bytes (memory_view old) (memory_view new) (Err x)
+tear_effect x at bytes old new inside changed = record {
+  written = tt;
+  failed = subst (λ file. Torn at (length bytes) (content_of old) file) (sym (tore_seen at (length bytes) old new changed)) (torn_same at (length bytes) (content_of old));
+  crash = tore_torn at (length bytes) old new inside changed;
+  time = changed_time (Tore at (length bytes)) old new changed;
+}

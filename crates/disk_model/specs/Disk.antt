@@ -1,7 +1,6 @@
 -- What the calls of a disk do to its file, and what a crash may leave of it. A file is its list of
 -- bytes; an image is a file that a crash may leave.
-use Rattle.std.specs.Prelude.{◌≡◌, ◌⊎◌, ℕ, ◌+◌, ◌-◌, ◌≤◌, min, max, List, ◌++◌, length, take, drop}
-use Rattle.exact_time.specs.Causes.{Rose}
+use Rattle.std.specs.Prelude.{◌≡◌, ℕ, ◌+◌, ◌-◌, ◌≤◌, min, max, List, ◌++◌, length, take, drop}
 
 -- the file with these bytes at this offset
 abbrev pub overwritten : List ℕ → ℕ → List ℕ → List ℕ
@@ -36,17 +35,3 @@ Leaves images P = (image : List ℕ) → images image → P image
 -- the one image is this file
 abbrev pub LeavesOnly : (List ℕ → Type 0) → List ℕ → Type 0
 LeavesOnly images file = Leaves images (λ image. image ≡ file)
-
--- A call takes time. What a crash since a moment t might have left is what it might have left before
--- the call, or what it may leave now, and what it might have left before stays.
-pub record Elapses {D : Type 0} (moment : D → ℕ) (left_since : D → ℕ → List ℕ → Type 0) (may_leave : D → List ℕ → Type 0) (old new : D) : Type 0 where
-  pub later : moment old ≤ moment new
-  pub rises : Rose (moment old) (moment new)
-  pub nothing_else : (t : ℕ) (image : List ℕ) → t ≤ moment old → left_since new t image → left_since old t image ⊎ may_leave new image
-  pub keeps : (t : ℕ) (image : List ℕ) → t ≤ moment old → left_since old t image → left_since new t image
-
--- At every moment since old every image has P; and a run that began earlier goes on so.
-pub record AlwaysLeaves {D : Type 0} (moment : D → ℕ) (left_since : D → ℕ → List ℕ → Type 0) (old new : D) (P : List ℕ → Type 0) : Type 0 where
-  pub later : moment old ≤ moment new
-  pub each : Leaves (left_since new (moment old)) P
-  pub before : (t : ℕ) (image : List ℕ) → t ≤ moment old → left_since new t image → left_since old t image ⊎ P image

@@ -1,12 +1,18 @@
 -- A disk in memory behind a fuse.
 use Rattle.std.specs.Prelude.{◌≡◌, ℕ, ◌-◌, ◌<◌, Result, IsErr}
 use Rattle.disk_model.specs.Calls.{IsUnreached}
+use Rattle.disk_model.specs.Memory.{memory_view}
+use Rattle.disk_model.specs.View.{DiskView}
 use Rattle.disk_model.specs.declared.memory.MemoryDisk.{MemoryDisk}
 use Rattle.disk_model.specs.declared.fuse.FuseDisk.{FuseDisk}
 
 -- the disk behind the fuse
 abbrev pub disk_of : FuseDisk → MemoryDisk
 disk_of fuse = fuse.disk
+
+-- what is told of it: all that is told of the disk behind it
+abbrev pub fuse_view : FuseDisk → DiskView
+fuse_view fuse = memory_view fuse.disk
 
 -- how many calls it still passes
 abbrev pub calls_left : FuseDisk → ℕ

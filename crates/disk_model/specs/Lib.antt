@@ -2,6 +2,7 @@ pub mod Calls
 pub mod Changes
 pub mod Choices
 pub mod Disk
+pub mod Effects
 pub mod File
 pub mod Fuse
 pub mod Images
@@ -10,3 +11,4 @@ pub mod Memory
 pub mod MemoryLaws
 pub mod Sound
 pub mod Untold
+pub mod View

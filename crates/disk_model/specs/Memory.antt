@@ -1,6 +1,7 @@
 -- What a disk in memory tells, and what one call does to it.
-use Rattle.std.specs.Prelude.{◌≡◌, ℕ, ◌<◌, ◌≤◌, List, [], ◌∷◌, ◌++◌}
+use Rattle.std.specs.Prelude.{◌≡◌, ℕ, ◌<◌, ◌≤◌, List, [], ◌∷◌, ◌++◌, true}
 use Rattle.disk_model.specs.Images.{IsImage}
+use Rattle.disk_model.specs.View.{DiskView}
 use Rattle.disk_model.specs.Changes.{State, at_rest, state_after, changes_in, LeftSince}
 use Rattle.disk_model.specs.declared.change.Change.{Change}
 use Rattle.disk_model.specs.declared.memory.MemoryDisk.{MemoryDisk}
@@ -36,6 +37,17 @@ moment_of disk = disk.moment
 -- how often it failed
 abbrev pub faults_of : MemoryDisk → ℕ
 faults_of disk = disk.faults
+
+-- what is told of it: all
+abbrev pub memory_view : MemoryDisk → DiskView
+memory_view disk = record {
+  tells = true;
+  content = content_of disk;
+  may_leave = images_now disk;
+  moment = moment_of disk;
+  left_since = images_since disk;
+  faults = faults_of disk;
+}
 
 -- how many calls it had, and the numbers of those that fail
 abbrev pub calls_of : MemoryDisk → ℕ

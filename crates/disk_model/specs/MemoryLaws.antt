@@ -5,7 +5,8 @@ use Rattle.std.proofs.Math.Nat.{not-le_of_lt}
 use Rattle.std.proofs.lemmas.Bool.{and_parts, leb-true}
 use Rattle.disk_model.specs.Images.{IsImage}
 use Rattle.disk_model.specs.Changes.{State, at_rest, after, state_after, changes_in, LeftSince, all_by}
-use Rattle.disk_model.specs.Memory.{made_with, content_of, state_of, images_now, images_since}
+use Rattle.disk_model.specs.View.{IsHonest}
+use Rattle.disk_model.specs.Memory.{made_with, state_of, memory_view}
 use Rattle.disk_model.specs.declared.change.Step.{Step}
 use Rattle.disk_model.specs.declared.memory.MemoryDisk.{MemoryDisk}
 
@@ -20,11 +21,9 @@ left_only_now s [] moment image by left = left
 left_only_now s (x ∷ xs) moment image by (inl early) = absurd (not-le_of_lt early.0 (leb-true x.moment moment (and_parts (nat_le x.moment moment) (all_by moment xs) by).0))
 left_only_now s (x ∷ xs) moment image by (inr left) = left_only_now (after s x.change) xs moment image (and_parts (nat_le x.moment moment) (all_by moment xs) by).1 left
 
-pub reads_image : (disk : MemoryDisk) → images_now disk (content_of disk)
-reads_image disk = subst (IsImage (state_of disk).images) (sym disk.kept.content_is) disk.kept.sound.reads
-
-pub counts_this_moment : (disk : MemoryDisk) (t : ℕ) (image : List ℕ) → images_now disk image → images_since disk t image
-counts_this_moment disk t image now = left_now (at_rest (made_with disk)) disk.steps.items t image now
-
-pub only_this_moment : (disk : MemoryDisk) (image : List ℕ) → images_since disk disk.moment image → images_now disk image
-only_this_moment disk image left = left_only_now (at_rest (made_with disk)) disk.steps.items disk.moment image disk.kept.in_time left
+pub memory_honest : (disk : MemoryDisk) → IsHonest (memory_view disk)
+memory_honest disk = record {
+  reads = subst (IsImage (state_of disk).images) (sym disk.kept.content_is) disk.kept.sound.reads;
+  counts_now = λ t image le now. left_now (at_rest (made_with disk)) disk.steps.items t image now;
+  only_now = λ image left. left_only_now (at_rest (made_with disk)) disk.steps.items disk.moment image disk.kept.in_time left;
+}

@@ -1,5 +1,5 @@
 //! A disk over a real file. It counts each error, and tells nothing.
-ghost use Rattle.std.specs.Prelude.{◌≡◌, ◌+◌, ◌^◌, ◌<◌, ◌≤◌, false, ⊤, [], length, take, Ok, IfOk, OnOk};
+ghost use Rattle.std.specs.Prelude.{◌≡◌, ◌+◌, ◌^◌, ◌<◌, ◌≤◌, false, length, take, Ok, IfOk, OnOk};
 ghost use Rattle.std.specs.Io.KnownBytes.{Appends, Consumes, IsAtEnd};
 ghost use Rattle.exact_time.specs.Causes.{HasCause, Rose};
 ghost use Rattle.disk_model.specs.File.{SeeksThen};
@@ -27,11 +27,11 @@ pub struct FileDisk<R: Files> {
 }
 
 impl<R: Files> FileDisk<R> {
-    ghost use Rattle.disk_model.specs.File.{is_spoiled, Endures};
+    ghost use Rattle.disk_model.specs.File.{is_spoiled, times_failed, Endures};
 
     /// The file at this path, which is made where there is none, if it may be made.
     pub fn new(files: R, path: Option<String>, may_make: bool) -> Self
-        ensures faults { ⟦<FileDisk<R> as Disk>⟧.faults result ≡ 0 }
+        ensures faults { times_failed result ≡ 0 }
         ensures spoiled { is_spoiled result ≡ false }
     {
         FileDisk {
@@ -183,19 +183,13 @@ fn write_all_at<F: Write + Seek>(file: &mut F, at: u64, bytes: &[u8]) -> io::Res
 
 impl<R: Files> Disk for FileDisk<R> {
     ghost use Rattle.disk_model.specs.File.{is_spoiled, times_failed, Endures, Spoils};
-    ghost use Rattle.disk_model.specs.Untold.{untold};
+    ghost use Rattle.disk_model.specs.Untold.{untold, untold_view};
 
-    ghost tells = { λ disk. false };
+    ghost view = { λ disk. untold_view (times_failed disk) };
 
-    ghost content = { λ disk. [] };
-
-    ghost may_leave = { λ disk image. ⊤ };
-
-    ghost moment = { λ disk. 0 };
-
-    ghost left_since = { λ disk t image. ⊤ };
-
-    ghost faults = { λ disk. disk.faults };
+    fn faults(&self) -> u64 {
+        self.faults
+    }
 
     fn len(&mut self) -> Result<u64, Failed>
         ensures bound { IfOk result (λ len. len < 2 ^ 63) }
@@ -245,9 +239,5 @@ impl<R: Files> Disk for FileDisk<R> {
         result
     }
 
-    ghost reads = { λ disk told. untold told };
-
-    ghost counts_now = { λ disk t image told le now. untold told };
-
-    ghost only_now = { λ disk image told left. untold told };
+    ghost honest = { λ disk told. untold told };
 }

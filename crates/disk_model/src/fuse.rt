@@ -1,7 +1,6 @@
 //! A disk that stops after so many calls.
-ghost use Rattle.std.specs.Prelude.{◌≡◌, ℕ, ◌+◌, ◌-◌, ◌^◌, ◌<◌, ◌≤◌, ◌↔◌, true, length, take, OnOk, OnErr, IfOk, IsTrue};
-ghost use Rattle.exact_time.specs.Causes.{HasCause};
-ghost use Rattle.disk_model.specs.Disk.{overwritten, Gives, Torn, Shortened, Follows, Leaves, LeavesOnly, Elapses};
+ghost use Rattle.std.specs.Prelude.{◌≡◌, ◌+◌, ◌-◌, ◌^◌, ◌<◌, ◌≤◌, ◌↔◌, length, OnOk, IfOk, IsTrue};
+ghost use Rattle.disk_model.specs.Disk.{Gives};
 
 use crate::change::Change;
 use crate::disk::Disk;
@@ -47,31 +46,23 @@ impl FuseDisk {
 }
 
 impl Disk for FuseDisk {
-    ghost use Rattle.disk_model.specs.Memory.{content_of, images_now, images_since, moment_of, faults_of};
-    ghost use Rattle.disk_model.specs.MemoryLaws.{reads_image, counts_this_moment, only_this_moment};
+    ghost use Rattle.disk_model.specs.MemoryLaws.{memory_honest};
+    ghost use Rattle.disk_model.specs.Memory.{content_of};
     ghost use Rattle.disk_model.specs.Calls.{ReadsOnly, Writes, Makes};
-    ghost use Rattle.disk_model.specs.Fuse.{disk_of, calls_left, Burns};
+    ghost use Rattle.disk_model.specs.Effects.{ChangesNothing, WritesInto, ShortensTo, MakesDurable};
+    ghost use Rattle.disk_model.specs.Fuse.{disk_of, fuse_view, Burns};
 
-    ghost tells = { λ fuse. true };
+    ghost view = { fuse_view };
 
-    ghost content = { λ fuse. content_of fuse.disk };
-
-    ghost may_leave = { λ fuse. images_now fuse.disk };
-
-    ghost moment = { λ fuse. moment_of fuse.disk };
-
-    ghost left_since = { λ fuse. images_since fuse.disk };
-
-    ghost faults = { λ fuse. faults_of fuse.disk };
+    fn faults(&self) -> u64 {
+        self.disk.faults()
+    }
 
     fn len(&mut self) -> Result<u64, Failed>
         ensures fuse { Burns ReadsOnly self.old self.new result }
         ensures bound { IfOk result (λ len. len < 2 ^ 63) }
         ensures length { IfOk result (λ len. len ≡ length (content_of (disk_of self.old))) }
-        ensures content { content_of (disk_of self.new) ≡ content_of (disk_of self.old) }
-        ensures crash { Leaves (images_now (disk_of self.new)) (images_now (disk_of self.old)) }
-        ensures time { Elapses moment_of images_since images_now (disk_of self.old) (disk_of self.new) }
-        ensures cause { HasCause (faults_of (disk_of self.old)) (faults_of (disk_of self.new)) result }
+        ensures told { ChangesNothing (fuse_view self.old) (fuse_view self.new) result }
     {
         if self.passes() {
             self.disk.len()
@@ -83,10 +74,7 @@ impl Disk for FuseDisk {
     fn read(&mut self, at: u64, into: &mut [u8]) -> Result<usize, Failed>
         ensures fuse { Burns ReadsOnly self.old self.new result }
         ensures bytes { IfOk result (λ count. Gives (content_of (disk_of self.old)) at count into.new) }
-        ensures content { content_of (disk_of self.new) ≡ content_of (disk_of self.old) }
-        ensures crash { Leaves (images_now (disk_of self.new)) (images_now (disk_of self.old)) }
-        ensures time { Elapses moment_of images_since images_now (disk_of self.old) (disk_of self.new) }
-        ensures cause { HasCause (faults_of (disk_of self.old)) (faults_of (disk_of self.new)) result }
+        ensures told { ChangesNothing (fuse_view self.old) (fuse_view self.new) result }
     {
         if self.passes() {
             self.disk.read(at, into)
@@ -99,11 +87,7 @@ impl Disk for FuseDisk {
         requires { at ≤ length (content_of (disk_of self.old)) }
         ensures fuse { Burns (Writes at bytes.now) self.old self.new result }
         ensures size { OnOk result (at + length bytes.now < 2 ^ 63) }
-        ensures written { OnOk result (content_of (disk_of self.new) ≡ overwritten (content_of (disk_of self.old)) at bytes.now) }
-        ensures failed { OnErr result (Torn at (length bytes.now) (content_of (disk_of self.old)) (content_of (disk_of self.new))) }
-        ensures crash { Follows (Torn at (length bytes.now)) (images_now (disk_of self.old)) (images_now (disk_of self.new)) }
-        ensures time { Elapses moment_of images_since images_now (disk_of self.old) (disk_of self.new) }
-        ensures cause { HasCause (faults_of (disk_of self.old)) (faults_of (disk_of self.new)) result }
+        ensures told { WritesInto at bytes.now (fuse_view self.old) (fuse_view self.new) result }
     {
         if self.passes() {
             self.disk.write_at(at, bytes)
@@ -115,11 +99,7 @@ impl Disk for FuseDisk {
     fn cut(&mut self, len: u64) -> Result<(), Failed>
         requires { len ≤ length (content_of (disk_of self.old)) }
         ensures fuse { Burns (Makes (Change.Cut len)) self.old self.new result }
-        ensures shorter { OnOk result (content_of (disk_of self.new) ≡ take len (content_of (disk_of self.old))) }
-        ensures failed { OnErr result (Shortened len (content_of (disk_of self.old)) (content_of (disk_of self.new))) }
-        ensures crash { Follows (Shortened len) (images_now (disk_of self.old)) (images_now (disk_of self.new)) }
-        ensures time { Elapses moment_of images_since images_now (disk_of self.old) (disk_of self.new) }
-        ensures cause { HasCause (faults_of (disk_of self.old)) (faults_of (disk_of self.new)) result }
+        ensures told { ShortensTo len (fuse_view self.old) (fuse_view self.new) result }
     {
         if self.passes() {
             self.disk.cut(len)
@@ -130,11 +110,7 @@ impl Disk for FuseDisk {
 
     fn sync(&mut self) -> Result<(), Failed>
         ensures fuse { Burns (Makes Change.Synced) self.old self.new result }
-        ensures durable { OnOk result (LeavesOnly (images_now (disk_of self.new)) (content_of (disk_of self.new))) }
-        ensures content { content_of (disk_of self.new) ≡ content_of (disk_of self.old) }
-        ensures crash { Leaves (images_now (disk_of self.new)) (images_now (disk_of self.old)) }
-        ensures time { Elapses moment_of images_since images_now (disk_of self.old) (disk_of self.new) }
-        ensures cause { HasCause (faults_of (disk_of self.old)) (faults_of (disk_of self.new)) result }
+        ensures told { MakesDurable (fuse_view self.old) (fuse_view self.new) result }
     {
         if self.passes() {
             self.disk.sync()
@@ -143,9 +119,5 @@ impl Disk for FuseDisk {
         }
     }
 
-    ghost reads = { λ fuse tells. reads_image fuse.disk };
-
-    ghost counts_now = { λ fuse t image tells le now. counts_this_moment fuse.disk t image now };
-
-    ghost only_now = { λ fuse image tells left. only_this_moment fuse.disk image left };
+    ghost honest = { λ fuse tells. memory_honest fuse.disk };
 }

@@ -1,8 +1,7 @@
 //! A law of every disk, by a worked run over it.
-ghost use Rattle.std.specs.Prelude.{◌≡◌, ◌+◌, ◌<◌, ◌≤◌, ◌++◌, ◌∷◌, [], true, length, OnOk};
-ghost use Rattle.exact_time.specs.Causes.{HasCause};
-ghost use Rattle.disk_model.specs.Disk.{overwritten, LeavesOnly, AlwaysLeaves};
-ghost use Rattle.disk_model.specs.Marked.{IsStaged};
+ghost use Rattle.std.specs.Prelude.{◌≡◌, ◌+◌, ◌<◌, ◌≤◌, length};
+ghost use Rattle.disk_model.specs.View.{WhereTold, IsSynced};
+ghost use Rattle.disk_model.specs.Marked.{AddsAndMarks};
 
 use crate::disk::Disk;
 use crate::through::write_through;
@@ -18,15 +17,10 @@ pub fn add_and_mark<D: Disk>(
     at: u64,
     byte: u8,
 ) -> Result<(), Failed>
-    requires end { D.tells disk.old ≡ true → end ≡ length (D.content disk.old) }
-    requires synced { D.tells disk.old ≡ true
-        → LeavesOnly (D.may_leave disk.old) (D.content disk.old) }
+    requires end { WhereTold (D.view disk.old) (end ≡ length (D.view disk.old).content) }
+    requires synced { WhereTold (D.view disk.old) (IsSynced (D.view disk.old)) }
     requires among { (end ≤ at) × (at < end + length bytes.now) }
-    ensures any_moment { D.tells disk.old ≡ true
-        → AlwaysLeaves D.moment D.left_since disk.old disk.new (IsStaged (D.content disk.old) bytes.now at) }
-    ensures done { D.tells disk.old ≡ true
-        → OnOk result (LeavesOnly (D.may_leave disk.new) (overwritten (D.content disk.old ++ bytes.now) at (byte ∷ []))) }
-    ensures cause { HasCause (D.faults disk.old) (D.faults disk.new) result }
+    ensures { AddsAndMarks bytes.now at byte (D.view disk.old) (D.view disk.new) result }
 {
     write_through(disk, end, bytes)?;
     write_through(disk, at, &[byte])

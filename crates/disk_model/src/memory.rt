@@ -1,7 +1,7 @@
 //! A disk in memory, which keeps each image that it had.
-ghost use Rattle.std.specs.Prelude.{◌≡◌, ◌++◌, ◌∷◌, [], ◌<◌, ◌≤◌, ◌^◌, ◌+◌, ◌-◌, ◌⊎◌, ℕ, List, true, false, Bool, take, length, vec_len, vec_capacity, IfOk, OnOk, OnErr, min, IsErr, IsTrue, ◌↔◌};
-ghost use Rattle.exact_time.specs.Causes.{HasCause, Rose};
-ghost use Rattle.disk_model.specs.Disk.{overwritten, Gives, Torn, Shortened, Follows, Leaves, LeavesOnly, Elapses};
+ghost use Rattle.std.specs.Prelude.{◌≡◌, [], ◌<◌, ◌≤◌, ◌^◌, ◌+◌, ◌-◌, true, length, IfOk, OnOk, OnErr, min, IsTrue, ◌↔◌};
+ghost use Rattle.exact_time.specs.Causes.{Rose};
+ghost use Rattle.disk_model.specs.Disk.{Gives, LeavesOnly};
 ghost use Rattle.disk_model.specs.Sound.{IsReplayed, HasRoom, waiting};
 
 use crate::change::{Change, Step};
@@ -37,16 +37,16 @@ pub struct MemoryDisk {
 
 impl MemoryDisk {
     ghost use Rattle.disk_model.specs.Choices.{IsImageFor};
-    ghost use Rattle.disk_model.specs.Memory.{made_with, changes_of, content_of, state_of, calls_of, fails_of, IsSame, IsChanged, SameCount};
+    ghost use Rattle.disk_model.specs.Memory.{made_with, changes_of, content_of, state_of, images_now, faults_of, memory_view, calls_of, fails_of, IsSame, IsChanged, SameCount};
     ghost use Rattle.disk_model.specs.Calls.{is_to_fail, one_more};
 
     /// A disk with this file, all of it synced, which fails at these calls. It takes the room for what
     /// these will leave.
     pub fn new(alloc: Global, bytes: Bytes, fails: Many<u64>) -> Result<Self, OutOfMemory>
-        ensures tells { IfOk result (λ disk. ⟦<MemoryDisk as Disk>⟧.tells disk ≡ true) }
-        ensures content { IfOk result (λ disk. ⟦<MemoryDisk as Disk>⟧.content disk ≡ bytes) }
-        ensures synced { IfOk result (λ disk. LeavesOnly (⟦<MemoryDisk as Disk>⟧.may_leave disk) bytes) }
-        ensures faults { IfOk result (λ disk. ⟦<MemoryDisk as Disk>⟧.faults disk ≡ 0) }
+        ensures tells { IfOk result (λ disk. (memory_view disk).tells ≡ true) }
+        ensures content { IfOk result (λ disk. content_of disk ≡ bytes) }
+        ensures synced { IfOk result (λ disk. LeavesOnly (images_now disk) bytes) }
+        ensures faults { IfOk result (λ disk. faults_of disk ≡ 0) }
         ensures calls { IfOk result (λ disk. calls_of disk ≡ 0) }
         ensures fails { IfOk result (λ disk. fails_of disk ≡ fails) }
         ensures first { IfOk result (λ disk. made_with disk ≡ bytes) }
@@ -71,7 +71,7 @@ impl MemoryDisk {
     /// An image of the present moment, copied. It costs no more than the file and the changes since the
     /// last sync.
     pub fn image(&self, choice: Choice) -> Result<Bytes, OutOfMemory>
-        ensures image { IfOk result (⟦<MemoryDisk as Disk>⟧.may_leave self.now) }
+        ensures image { IfOk result (images_now self.now) }
         ensures choice { IfOk result (IsImageFor (state_of self.now) choice) }
     {
         let mut image = Bytes::new(self.alloc);
@@ -230,30 +230,22 @@ fn is_too_long(at: u64, len: usize) -> bool
 }
 
 impl Disk for MemoryDisk {
-    ghost use Rattle.disk_model.specs.Memory.{content_of, images_now, images_since, moment_of, faults_of};
+    ghost use Rattle.disk_model.specs.Memory.{content_of, memory_view};
     ghost use Rattle.disk_model.specs.Calls.{ReadsOnly, Writes, Makes};
-    ghost use Rattle.disk_model.specs.MemoryLaws.{reads_image, counts_this_moment, only_this_moment};
+    ghost use Rattle.disk_model.specs.Effects.{ChangesNothing, WritesInto, ShortensTo, MakesDurable};
+    ghost use Rattle.disk_model.specs.MemoryLaws.{memory_honest};
 
-    ghost tells = { λ disk. true };
+    ghost view = { memory_view };
 
-    ghost content = { content_of };
-
-    ghost may_leave = { images_now };
-
-    ghost moment = { moment_of };
-
-    ghost left_since = { images_since };
-
-    ghost faults = { faults_of };
+    fn faults(&self) -> u64 {
+        self.faults
+    }
 
     fn len(&mut self) -> Result<u64, Failed>
         ensures call { ReadsOnly self.old self.new result }
         ensures bound { IfOk result (λ len. len < 2 ^ 63) }
         ensures length { IfOk result (λ len. len ≡ length (content_of self.old)) }
-        ensures content { content_of self.new ≡ content_of self.old }
-        ensures crash { Leaves (images_now self.new) (images_now self.old) }
-        ensures time { Elapses moment_of images_since images_now self.old self.new }
-        ensures cause { HasCause (faults_of self.old) (faults_of self.new) result }
+        ensures told { ChangesNothing (memory_view self.old) (memory_view self.new) result }
     {
         if self.is_failing() {
             Err(self.refuse())
@@ -266,10 +258,7 @@ impl Disk for MemoryDisk {
     fn read(&mut self, at: u64, into: &mut [u8]) -> Result<usize, Failed>
         ensures call { ReadsOnly self.old self.new result }
         ensures bytes { IfOk result (λ count. Gives (content_of self.old) at count into.new) }
-        ensures content { content_of self.new ≡ content_of self.old }
-        ensures crash { Leaves (images_now self.new) (images_now self.old) }
-        ensures time { Elapses moment_of images_since images_now self.old self.new }
-        ensures cause { HasCause (faults_of self.old) (faults_of self.new) result }
+        ensures told { ChangesNothing (memory_view self.old) (memory_view self.new) result }
     {
         if self.is_failing() {
             return Err(self.refuse());
@@ -283,11 +272,7 @@ impl Disk for MemoryDisk {
         requires { at ≤ length (content_of self.old) }
         ensures call { Writes at bytes.now self.old self.new result }
         ensures size { OnOk result (at + length bytes.now < 2 ^ 63) }
-        ensures written { OnOk result (content_of self.new ≡ overwritten (content_of self.old) at bytes.now) }
-        ensures failed { OnErr result (Torn at (length bytes.now) (content_of self.old) (content_of self.new)) }
-        ensures crash { Follows (Torn at (length bytes.now)) (images_now self.old) (images_now self.new) }
-        ensures time { Elapses moment_of images_since images_now self.old self.new }
-        ensures cause { HasCause (faults_of self.old) (faults_of self.new) result }
+        ensures told { WritesInto at bytes.now (memory_view self.old) (memory_view self.new) result }
     {
         let is_failing = self.is_failing();
         if self.moment == u64::MAX || is_too_long(at, bytes.len()) {
@@ -306,11 +291,7 @@ impl Disk for MemoryDisk {
     fn cut(&mut self, len: u64) -> Result<(), Failed>
         requires { len ≤ length (content_of self.old) }
         ensures call { Makes (Change.Cut len) self.old self.new result }
-        ensures shorter { OnOk result (content_of self.new ≡ take len (content_of self.old)) }
-        ensures failed { OnErr result (Shortened len (content_of self.old) (content_of self.new)) }
-        ensures crash { Follows (Shortened len) (images_now self.old) (images_now self.new) }
-        ensures time { Elapses moment_of images_since images_now self.old self.new }
-        ensures cause { HasCause (faults_of self.old) (faults_of self.new) result }
+        ensures told { ShortensTo len (memory_view self.old) (memory_view self.new) result }
     {
         if self.is_failing() || self.moment == u64::MAX {
             return Err(self.refuse());
@@ -323,11 +304,7 @@ impl Disk for MemoryDisk {
 
     fn sync(&mut self) -> Result<(), Failed>
         ensures call { Makes Change.Synced self.old self.new result }
-        ensures durable { OnOk result (LeavesOnly (images_now self.new) (content_of self.new)) }
-        ensures content { content_of self.new ≡ content_of self.old }
-        ensures crash { Leaves (images_now self.new) (images_now self.old) }
-        ensures time { Elapses moment_of images_since images_now self.old self.new }
-        ensures cause { HasCause (faults_of self.old) (faults_of self.new) result }
+        ensures told { MakesDurable (memory_view self.old) (memory_view self.new) result }
     {
         if self.is_failing() || self.moment == u64::MAX {
             return Err(self.refuse());
@@ -338,11 +315,7 @@ impl Disk for MemoryDisk {
         }
     }
 
-    ghost reads = { λ disk tells. reads_image disk };
-
-    ghost counts_now = { λ disk t image tells le now. counts_this_moment disk t image now };
-
-    ghost only_now = { λ disk image tells left. only_this_moment disk image left };
+    ghost honest = { λ disk tells. memory_honest disk };
 }
 
 // Gives as many bytes as there are from `at` on, up to the slice.

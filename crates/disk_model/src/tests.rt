@@ -1,6 +1,7 @@
 //! Torn writes, failing calls, a fuse, and a real file.
 ghost use Rattle.std.specs.Prelude.{◌≡◌, false, IfOk};
-ghost use Rattle.disk_model.specs.Disk.{LeavesOnly};
+ghost use Rattle.disk_model.specs.View.{IsOnlyImage};
+ghost use Rattle.disk_model.specs.Memory.{memory_view};
 
 use crate::{Choice, Disk, FileDisk, FuseDisk, MemoryDisk, add_and_mark};
 use exact_time::{Bytes, Failed, Many, OutOfMemory};
@@ -11,8 +12,8 @@ use std::test::Fail;
 
 // A synced disk with this file, which fails at these calls.
 fn disk_of(alloc: Global, file: &[u8], fails: &[u64]) -> Result<MemoryDisk, OutOfMemory>
-    ensures content { IfOk result (λ disk. ⟦<MemoryDisk as Disk>⟧.content disk ≡ file.now) }
-    ensures synced { IfOk result (λ disk. LeavesOnly (⟦<MemoryDisk as Disk>⟧.may_leave disk) file.now) }
+    ensures content { IfOk result (λ disk. (memory_view disk).content ≡ file.now) }
+    ensures synced { IfOk result (λ disk. IsOnlyImage (memory_view disk) file.now) }
 {
     let mut bytes = Bytes::new(alloc);
     bytes.extend(file)?;
@@ -218,7 +219,7 @@ fn check_file<D: Disk>(rt: &impl Abort, disk: &mut D, wanted: &[u8]) -> Result<(
 
 // Two writes and a sync.
 fn fill_file<D: Disk>(rt: &impl Abort, disk: &mut D) -> Result<(), Failed>
-    requires { D.tells disk.old ≡ false }
+    requires { (D.view disk.old).tells ≡ false }
 {
     disk.write_at(0, b"abcdef")?;
     disk.write_at(2, b"XY")?;
@@ -228,7 +229,7 @@ fn fill_file<D: Disk>(rt: &impl Abort, disk: &mut D) -> Result<(), Failed>
 
 // A cut, and a write that would end past the greatest length.
 fn cut_file<D: Disk>(rt: &impl Abort, disk: &mut D) -> Result<(), Failed>
-    requires { D.tells disk.old ≡ false }
+    requires { (D.view disk.old).tells ≡ false }
 {
     disk.cut(3)?;
     disk.sync()?;

@@ -1,37 +1,55 @@
-use Rattle.std.proofs.Common.{◌∙◌, inl, ℕ, ◌+◌, List, length}
+use Rattle.std.proofs.Common.{◌∙◌, inl, ℕ, ◌+◌, List, [], ◌∷◌, ◌++◌, length, arith, refl, rules}
 use Rattle.disk_model.specs.Disk.{Torn, Leaves}
 use Rattle.disk_model.proofs.Moments.{weakened, and_then}
+use Rattle.archive_journal.specs.Frames.{body_of, closed_gate}
 use Rattle.archive_journal.specs.Journal.{IsJournalWithOrWithout}
 use Rattle.archive_journal.proofs.Adding.{brought, opening}
 use Rattle.archive_journal.proofs.commit.add_frame.Goals as goal
 
-pub returns-in_err-bring-clause-any_moment : goal.returns-in_err-bring-clause-any_moment
-returns-in_err-bring-clause-any_moment g c payloads tells journal is_end =
-    let d = g.D.Disk in
-    let old = c.args.disk.now in
-    let n = length c.args.frame.now + 5 in
-    weakened d.moment d.left_since old c.bring.new.disk (Torn (c.args.gate + 1) n (d.content old)) (IsJournalWithOrWithout payloads c.args.frame.now)
-    (λ image torn. inl (brought payloads (d.content old) journal c.args.gate is_end n image torn)) (c.bring.ensures.any_moment tells)
-
-pub returns-clause-any_moment : goal.returns-clause-any_moment
-returns-clause-any_moment g c payloads tells journal is_end =
-    let d = g.D.Disk in
-    let old = c.args.disk.now in
-    let mid = c.bring.new.disk in
+pub returns-in_err-bring-clause-call : goal.returns-in_err-bring-clause-call
+returns-in_err-bring-clause-call g c =
+    let old = g.D.Disk.view c.args.disk.now in
+    let new = g.D.Disk.view c.bring.new.disk in
     let p = c.args.frame.now in
-    let n = length p + 5 in
-    let P : List ℕ → Type 0 = IsJournalWithOrWithout payloads p in
-    let bringing : Leaves (Torn (c.args.gate + 1) n (d.content old)) P = λ image torn. inl (brought payloads (d.content old) journal c.args.gate is_end n image torn) in
-    let opens : Leaves (Torn c.args.gate 1 (d.content mid)) P = λ image torn. opening payloads (d.content old) journal c.args.gate is_end p (d.content mid) image c.bring.ensures.sized (c.in_ok-bring.ensures.written tells) torn in
-    and_then d.moment d.left_since old mid c.open.new.disk P
-    (weakened d.moment d.left_since old mid (Torn (c.args.gate + 1) n (d.content old)) P bringing (c.bring.ensures.any_moment tells))
-    (weakened d.moment d.left_since mid c.open.new.disk (Torn c.args.gate 1 (d.content mid)) P opens (c.open.ensures.any_moment (c.bring.ensures.tells ∙ tells)))
+    let n = length (body_of p ++ closed_gate ∷ []) in
+    let call = c.in_err-bring.ensures.call in
+    record {
+      tells = call.tells;
+      later = call.later;
+      cause = λ failed. call.cause refl;
+      told = λ told. record {
+        written = search rules;
+        durable = search rules;
+        any_moment = λ payloads journal is_end. weakened old new (Torn (c.args.gate + 1) n old.content) (IsJournalWithOrWithout payloads p)
+            (λ image torn. inl (brought payloads old.content journal c.args.gate is_end n image torn)) (call.told told).any_moment;
+        now = λ payloads journal is_end image left. inl (brought payloads old.content journal c.args.gate is_end n image ((call.told told).now image left));
+      };
+    }
 
-pub returns-in_err-bring-clause-now : goal.returns-in_err-bring-clause-now
-returns-in_err-bring-clause-now g c payloads tells journal is_end image left =
-    inl (brought payloads (g.D.Disk.content c.args.disk.now) journal c.args.gate is_end (length c.args.frame.now + 5) image (c.bring.ensures.now tells image left))
-
-pub returns-clause-now : goal.returns-clause-now
-returns-clause-now g c payloads tells journal is_end image left =
-    let d = g.D.Disk in
-    opening payloads (d.content c.args.disk.now) journal c.args.gate is_end c.args.frame.now (d.content c.bring.new.disk) image c.bring.ensures.sized (c.in_ok-bring.ensures.written tells) (c.open.ensures.now (c.bring.ensures.tells ∙ tells) image left)
+pub returns-clause-call : goal.returns-clause-call
+returns-clause-call g c =
+    let old = g.D.Disk.view c.args.disk.now in
+    let mid = g.D.Disk.view c.bring.new.disk in
+    let new = g.D.Disk.view c.open.new.disk in
+    let p = c.args.frame.now in
+    let n = length (body_of p ++ closed_gate ∷ []) in
+    let gate = c.args.gate in
+    let first = c.in_ok-bring.ensures.call in
+    let second = c.open.ensures in
+    record {
+      tells = second.tells ∙ first.tells;
+      later = omega (arith, first.later, second.later);
+      cause = λ failed. omega (arith, first.later, second.cause failed);
+      told = λ told.
+          let bring = first.told told in
+          let opens_it = second.told (first.tells ∙ told) in record {
+            written = search rules;
+            durable = opens_it.durable;
+            any_moment = λ payloads journal is_end.
+                let P : List ℕ → Type 0 = IsJournalWithOrWithout payloads p in
+                let bringing : Leaves (Torn (gate + 1) n old.content) P = λ image torn. inl (brought payloads old.content journal gate is_end n image torn) in
+                let opens : Leaves (Torn gate 1 mid.content) P = λ image torn. opening payloads old.content journal gate is_end p mid.content image c.bring.ensures.sized bring.written torn in
+                and_then old mid new P (weakened old mid (Torn (gate + 1) n old.content) P bringing bring.any_moment) (weakened mid new (Torn gate 1 mid.content) P opens opens_it.any_moment);
+            now = λ payloads journal is_end image left. opening payloads old.content journal gate is_end p mid.content image c.bring.ensures.sized bring.written (opens_it.now image left);
+          };
+    }

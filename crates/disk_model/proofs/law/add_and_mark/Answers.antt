@@ -1,5 +1,6 @@
-use Rattle.std.proofs.Common.{◌≡◌, ◌∙◌, ◌++◌, ◌∷◌, [], List, ℕ, length, Result, Ok, Err, OnOk, ap}
-use Rattle.disk_model.specs.Disk.{overwritten, Torn, Leaves, LeavesOnly}
+use Rattle.std.proofs.Common.{◌≡◌, ◌∙◌, ◌++◌, ◌∷◌, [], List, ℕ, length, Result, Ok, Err, OnOk, ap, arith, refl, rules}
+use Rattle.disk_model.specs.Disk.{overwritten, Torn, Leaves}
+use Rattle.disk_model.specs.View.{IsSynced, IsOnlyImage}
 use Rattle.disk_model.specs.Marked.{IsStaged}
 use Rattle.disk_model.proofs.Moments.{weakened, and_then}
 use Rattle.disk_model.proofs.Marking.{staged_by_adding, staged_by_marking, added}
@@ -10,39 +11,47 @@ at_ok : {T E : Type 0} (P Q R : Type 0) (r : Result T E) → (P → Q → R) →
 at_ok P Q R (Ok x) means p q = means p q
 at_ok P Q R (Err e) means p q = q
 
-pub returns-in_err-write_through-clause-any_moment : goal.returns-in_err-write_through-clause-any_moment
-returns-in_err-write_through-clause-any_moment g c tells =
-    let d = g.D.Disk in
-    let file = d.content c.args.disk.now in
-    weakened d.moment d.left_since c.args.disk.now c.write_through.new.disk (Torn c.args.end (length c.args.bytes.now) file) (IsStaged file c.args.bytes.now c.args.at)
-    (staged_by_adding file c.args.bytes.now c.args.end c.args.at (c.requires.end tells)) (c.write_through.ensures.any_moment tells)
+pub returns-in_err-write_through : goal.returns-in_err-write_through
+returns-in_err-write_through g c =
+    let old = g.D.Disk.view c.args.disk.now in
+    let new = g.D.Disk.view c.write_through.new.disk in
+    let call = c.in_err-write_through.ensures.call in
+    record {
+      tells = call.tells;
+      later = call.later;
+      cause = λ failed. call.cause refl;
+      told = λ told. record {
+        any_moment = weakened old new (Torn c.args.end (length c.args.bytes.now) old.content) (IsStaged old.content c.args.bytes.now c.args.at)
+            (staged_by_adding old.content c.args.bytes.now c.args.end c.args.at (c.requires.end told)) (call.told told).any_moment;
+        done = search rules;
+      };
+    }
 
-pub returns-clause-any_moment : goal.returns-clause-any_moment
-returns-clause-any_moment g c tells =
-    let d = g.D.Disk in
-    let old = c.args.disk.now in
-    let mid = c.write_through.new.disk in
-    let new = c.write_through-2.new.disk in
-    let file = d.content old in
+pub returns : goal.returns
+returns g c =
+    let old = g.D.Disk.view c.args.disk.now in
+    let mid = g.D.Disk.view c.write_through.new.disk in
+    let new = g.D.Disk.view c.write_through-2.new.disk in
+    let first = c.in_ok-write_through.ensures.call in
+    let second = c.write_through-2.ensures.call in
     let bytes = c.args.bytes.now in
-    let P : List ℕ → Type 0 = IsStaged file bytes c.args.at in
-    let mid_tells = c.write_through.ensures.tells ∙ tells in
-    let adding : Leaves (Torn c.args.end (length bytes) file) P = staged_by_adding file bytes c.args.end c.args.at (c.requires.end tells) in
-    let marking : Leaves (Torn c.args.at 1 (d.content mid)) P = λ image torn. staged_by_marking file bytes c.args.end c.args.at (c.requires.end tells) (d.content mid) image c.requires.among.0 c.requires.among.1 (c.in_ok-write_through.ensures.written tells) torn in
-    and_then d.moment d.left_since old mid new P
-    (weakened d.moment d.left_since old mid (Torn c.args.end (length bytes) file) P adding (c.write_through.ensures.any_moment tells))
-    (weakened d.moment d.left_since mid new (Torn c.args.at 1 (d.content mid)) P marking (c.write_through-2.ensures.any_moment mid_tells))
-
-pub returns-clause-done : goal.returns-clause-done
-returns-clause-done g c tells =
-    let d = g.D.Disk in
-    let mid = c.write_through.new.disk in
-    let new = c.write_through-2.new.disk in
-    let file = d.content c.args.disk.now in
-    let bytes = c.args.bytes.now in
-    let mid_tells = c.write_through.ensures.tells ∙ tells in
-    let whole : d.content mid ≡ file ++ bytes = c.in_ok-write_through.ensures.written tells ∙ added file bytes c.args.end c.args.at (c.requires.end tells) in
-    let marked = overwritten (file ++ bytes) c.args.at (c.args.byte ∷ []) in
-    at_ok (d.content new ≡ overwritten (d.content mid) c.args.at (c.args.byte ∷ [])) (LeavesOnly (d.may_leave new) (d.content new)) (LeavesOnly (d.may_leave new) marked) c.write_through-2.result
-    (λ is only image left. only image left ∙ is ∙ ap (λ (l : List ℕ). overwritten l c.args.at (c.args.byte ∷ [])) whole)
-    (c.write_through-2.ensures.written mid_tells) (c.write_through-2.ensures.durable mid_tells)
+    let P : List ℕ → Type 0 = IsStaged old.content bytes c.args.at in
+    let marked = overwritten (old.content ++ bytes) c.args.at (c.args.byte ∷ []) in
+    record {
+      tells = second.tells ∙ first.tells;
+      later = omega (arith, first.later, second.later);
+      cause = λ failed. omega (arith, first.later, second.cause failed);
+      told = λ told.
+          let mid_told = first.tells ∙ told in
+          let is_end = c.requires.end told in
+          let adding : Leaves (Torn c.args.end (length bytes) old.content) P = staged_by_adding old.content bytes c.args.end c.args.at is_end in
+          let marking : Leaves (Torn c.args.at 1 mid.content) P = λ image torn. staged_by_marking old.content bytes c.args.end c.args.at is_end mid.content image c.requires.among.0 c.requires.among.1 (first.told told).written torn in
+          let whole : mid.content ≡ old.content ++ bytes = (first.told told).written ∙ added old.content bytes c.args.end c.args.at is_end in record {
+            any_moment = and_then old mid new P
+                (weakened old mid (Torn c.args.end (length bytes) old.content) P adding (first.told told).any_moment)
+                (weakened mid new (Torn c.args.at 1 mid.content) P marking (second.told mid_told).any_moment);
+            done = at_ok (new.content ≡ overwritten mid.content c.args.at (c.args.byte ∷ [])) (IsSynced new) (IsOnlyImage new marked) c.write_through-2.result
+                (λ is only image left. only image left ∙ is ∙ ap (λ (l : List ℕ). overwritten l c.args.at (c.args.byte ∷ [])) whole)
+                (second.told mid_told).written (second.told mid_told).durable;
+          };
+    }

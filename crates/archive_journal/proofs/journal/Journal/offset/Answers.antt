@@ -1,4 +1,5 @@
-use Rattle.std.proofs.Common.{◌≡◌, ◌∙◌, ◌<◌, ◌-◌, ap, subst, true, arith, length}
+use Rattle.std.proofs.Common.{◌≡◌, ◌∙◌, ◌<◌, ◌-◌, ap, subst, arith, length}
+use Rattle.disk_model.specs.View.{WhereTold}
 use Rattle.archive_journal.specs.Journal.{Opened, gate_of, first_payloads}
 use Rattle.archive_journal.proofs.FrameLists.{gate_at}
 use Rattle.archive_journal.proofs.Kept.{placed_now, count_now}
@@ -8,10 +9,10 @@ pub returns : goal.returns
 returns g c =
     let d = g.D.Disk in
     let j = c.self.inside in
-    let payloads = first_payloads (length j.offsets.items) (d.content j.disk) in
-    subst (λ (v : Opened g.row.D.Denot). d.tells v.disk ≡ true → c.index.result.now ≡ gate_of v.payloads c.args.n) c.self.view_is
+    let payloads = first_payloads (length j.offsets.items) ((d.view j.disk).content) in
+    subst (λ (v : Opened g.row.D.Denot). WhereTold (d.view v.disk) (c.index.result.now ≡ gate_of v.payloads c.args.n)) c.self.view_is
     (λ tells.
-    let count = count_now d.tells d.content d.may_leave d.faults j.disk j.opened.value j.offsets.items j.end j.stopped c.self.invariant tells in
-    let placed = placed_now d.tells d.content d.may_leave d.faults j.disk j.opened.value j.offsets.items j.end j.stopped c.self.invariant tells in
+    let count = count_now (d.view j.disk) j.faults j.offsets.items j.end j.stopped c.self.invariant tells in
+    let placed = placed_now (d.view j.disk) j.faults j.offsets.items j.end j.stopped c.self.invariant tells in
     let inside : c.args.n - 1 < length payloads = omega (arith, c.requires, ap (λ (v : Opened g.row.D.Denot). v.count) c.self.view_is, count) in
     c.index.ensures ∙ gate_at payloads j.offsets.items j.end placed (c.args.n - 1) c.index.result.now inside)
