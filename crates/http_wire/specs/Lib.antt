@@ -1,0 +1,12 @@
+pub mod Blocks
+pub mod FieldPairs
+pub mod Fronts
+pub mod HeadReading
+pub mod Heads
+pub mod Items
+pub mod Laws
+pub mod Memory
+pub mod Requests
+pub mod Spanned
+pub mod Streams
+pub mod Taking

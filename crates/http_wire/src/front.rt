@@ -1,0 +1,150 @@
+//! Reads the front of a request: lets blank bytes go, and looks for its block.
+ghost use Rattle.std.specs.Prelude.{◌≡◌, ◌≤◌, ◌<◌, ◌^◌, length, drop, IfOk, Err};
+ghost use Rattle.exact_time.specs.Causes.{Rose};
+ghost use Rattle.http_wire.specs.Fronts.{after_space, has_long_target};
+ghost use Rattle.http_wire.specs.Taking.{skip_blank, Skipped, AtEndIf, FrontRead, front_size};
+
+use crate::block::{BlockEnd, read_block};
+use crate::link::Link;
+use crate::taking::{TakeStop, hold_some};
+
+/// A front of what is held, and how it ends.
+#[derive(Clone, Copy, Debug, PartialEq, Eq)]
+pub struct Front {
+    pub kind: BlockEnd,
+    pub size: usize,
+}
+
+fn skip_blank(text: &[u8]) -> &[u8]
+    ensures same { result.now ≡ skip_blank text.now }
+    ensures shorter { length result.now ≤ length text.now }
+{
+    let mut left = text;
+    'blanks: while let [b'\r' | b'\n', rest @ ..] = left {
+        left = rest;
+    }
+    left
+}
+
+// Lets the first bytes of what is held go.
+pub(crate) fn drop_front(held: &mut Vec<u8>, count: usize)
+    requires { count ≤ length held.old.items }
+    ensures { held.new.items ≡ drop count held.old.items }
+{
+    held.drain(..count);
+}
+
+// Takes a piece where nothing is held, and lets go of the blank bytes. Answers how many these were.
+fn skip_piece<L: Link>(link: &mut L, held: &mut Vec<u8>) -> Result<usize, TakeStop>
+    ensures skipped { IfOk result (λ n. Skipped 1 (L.left link.old) (L.left link.new) held.old.items n held.new.items) }
+    ensures small { IfOk result (λ n. n < 2 ^ 63) }
+    ensures fault { result ≡ Err TakeStop.LinkFault → Rose (L.faults link.old) (L.faults link.new) }
+    ensures later { L.faults link.old ≤ L.faults link.new }
+    ensures kept { L.written link.new ≡ L.written link.old }
+{
+    hold_some(link, held)?;
+    let count = held.len() - skip_blank(held).len();
+    drop_front(held, count);
+    Ok(count)
+}
+
+// Lets go of the blank bytes before a request.
+fn skip_blanks<L: Link>(link: &mut L, held: &mut Vec<u8>, limit: usize) -> Result<usize, TakeStop>
+    requires small { limit < 2 ^ 32 }
+    ensures skipped { IfOk result (λ n. Skipped limit (L.left link.old) (L.left link.new) held.old.items n held.new.items) }
+    ensures fault { result ≡ Err TakeStop.LinkFault → Rose (L.faults link.old) (L.faults link.new) }
+    ensures later { L.faults link.old ≤ L.faults link.new }
+    ensures kept { L.written link.new ≡ L.written link.old }
+{
+    let mut skipped = 0;
+    'pieces: loop {
+        let count = skip_piece(link, held)?;
+        skipped += count;
+        if count == 0 {
+            return Ok(skipped);
+        }
+        if !held.is_empty() {
+            return Ok(skipped);
+        }
+        if limit <= skipped {
+            return Ok(skipped);
+        }
+    }
+}
+
+// How many bytes of what is held are the front.
+fn front_size(kind: BlockEnd, held: usize, room: usize) -> usize
+    ensures { result ≡ front_size kind held room }
+{
+    match kind {
+        BlockEnd::Block(end) => end,
+        BlockEnd::Long => room,
+        BlockEnd::Ended => held,
+    }
+}
+
+// Takes from the link until it is known how the front of a request ends.
+pub(crate) fn read_front<L: Link>(
+    link: &mut L,
+    held: &mut Vec<u8>,
+    limit: usize,
+) -> Result<Front, TakeStop>
+    requires small { limit < 2 ^ 32 }
+    ensures front { IfOk result (FrontRead limit (L.left link.old) (L.left link.new) held.old.items held.new.items) }
+    ensures end { IfOk result (λ front. AtEndIf (L.left link.new) front.kind) }
+    ensures fault { result ≡ Err TakeStop.LinkFault → Rose (L.faults link.old) (L.faults link.new) }
+    ensures later { L.faults link.old ≤ L.faults link.new }
+    ensures kept { L.written link.new ≡ L.written link.old }
+{
+    let skipped = skip_blanks(link, held, limit)?;
+    if limit <= skipped {
+        return Ok(Front {
+            kind: BlockEnd::Long,
+            size: 0,
+        });
+    }
+    if held.is_empty() {
+        return Ok(Front {
+            kind: BlockEnd::Ended,
+            size: 0,
+        });
+    }
+    let room = limit - skipped;
+    let kind = read_block(link, held, room)?;
+    let size = front_size(kind, held.len(), room);
+    Ok(Front { kind, size })
+}
+
+// What follows the first space of the first line.
+fn after_space(text: &[u8]) -> &[u8]
+    ensures { result.now ≡ after_space text.now }
+{
+    let mut left = text;
+    'bytes: while let [byte, rest @ ..] = left {
+        if *byte == b' ' {
+            return rest;
+        }
+        if *byte == b'\n' {
+            return &[];
+        }
+        left = rest;
+    }
+    &[]
+}
+
+// How many bytes a target may have.
+const TARGET_LIMIT: usize = 8000;
+
+// Whether the target is longer than one may be.
+pub(crate) fn has_long_target(text: &[u8]) -> bool
+    ensures { result ≡ has_long_target text.now }
+{
+    let mut count: usize = 0;
+    'bytes: for byte in after_space(text) {
+        if *byte == b' ' || *byte == b'\r' || *byte == b'\n' {
+            return count > TARGET_LIMIT;
+        }
+        count += 1;
+    }
+    count > TARGET_LIMIT
+}

@@ -1,0 +1,53 @@
+//! Requests of HTTP/1, read from a link however it cuts them.
+//!
+//! What the crate above uses: [`read_request`] over a [`Link`], with the [`Inbox`] that keeps what was
+//! taken and not used yet. Its contract is words of `specs/Requests.antt`: the next request of all that
+//! was held and that the link gave, or why there is none, and what was written. It says nothing of the
+//! pieces in which the bytes came. It writes the interim reply (RFC 9110, section 10.1.1) and nothing
+//! else. [`MemoryLink`] is a link in memory; what each of its calls does is in `specs/Memory.antt`.
+//!
+//! The definition, on whole lists of bytes: `specs/Blocks.antt` says where a head's block ends (RFC 9112,
+//! section 2.1), `specs/Fronts.antt` how a stream is cut into blank bytes, the front of a request and the
+//! rest, `specs/Heads.antt` what a front says, by the tests of a head in their order, and
+//! `specs/Items.antt` what a request is, and which list of requests a stream is and how it ends. A head is
+//! what the grammar of `httparse` reads by its default settings. That a stream has one such list, that
+//! the answers speak of all that was held and left and are the same however it was cut, and that a front
+//! holds its target are laws (`specs/Laws.antt`), each the contract of a function without body.
+//!
+//! Each byte of a head is looked at once for the end of its block, whatever the pieces; then the front is
+//! tested and parsed. A head with more fields than are read is parsed once more, with room for all, since
+//! a bad field behind the last that is read makes it no head. A body is taken into the inbox, which has
+//! the room before, and copied from there once.
+#![tactic(auto)]
+
+mod asking;
+mod block;
+mod ending;
+mod field;
+mod fields;
+mod front;
+mod head;
+mod inbox;
+mod judging;
+mod law;
+mod link;
+mod memory;
+mod parsing;
+mod reading;
+mod request;
+mod taking;
+#[cfg(test)]
+mod tests;
+mod writing;
+
+pub use ending::{HeadFault, ReadEnd};
+pub use field::Field;
+pub use inbox::Inbox;
+pub use law::{
+    a_front_holds_its_target, a_stream_has_one_list_of_items, answers_speak_of_all_bytes,
+    bytes_begin_with_one_request, pieces_do_not_matter,
+};
+pub use link::Link;
+pub use memory::MemoryLink;
+pub use reading::read_request;
+pub use request::Request;
