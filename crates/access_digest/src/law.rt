@@ -1,0 +1,33 @@
+//! The laws of who may have a row.
+ghost use Rattle.std.specs.Prelude.{◌≡◌, ◌↔◌, IsTrue, List, Option, map, filter};
+ghost use Rattle.channel_globs.specs.declared.nslc.Nslc.{Nslc};
+ghost use Rattle.epochs.specs.declared.kinds.LineKind.TheVariants.{Rst};
+ghost use Rattle.epochs.specs.declared.line.Line.{Line};
+ghost use Rattle.epochs.specs.Kinds.{Text};
+ghost use Rattle.epochs.specs.Lines.{LineValues};
+ghost use Rattle.epochs.specs.Views.{values_of_line};
+ghost use Rattle.epoch_rules.specs.Rules.{is_line_of};
+ghost use Rattle.mseed_header.specs.declared.row.Row.{Row};
+ghost use Rattle.access_digest.specs.Access.{grants_of, is_touched, is_unrestricted, may_have};
+ghost use Rattle.access_digest.specs.AccessLaw.{IsTouched, MayHave};
+
+/// A restriction touches a row where its patterns match the four codes, the row's last sample isn't before
+/// its start, and the first isn't after its end. A grant covers a row where its patterns match, the first
+/// sample isn't before its start, and the last isn't after its end. A caller may have a row exactly where no
+/// restriction touches it, or a grant of that user covers it.
+pub fn may_have_in_the_subjects_words()
+    ensures touched { (lines : List Line) (row : Row) → IsTrue (is_touched (map values_of_line lines) row) ↔ IsTouched lines row }
+    ensures may { (lines : List Line) (user : Option Text) (row : Row) → IsTrue (may_have (map values_of_line lines) user row) ↔ MayHave lines user row }
+{}
+
+/// What a caller sees depends on the live restrictions and on the grants of that user alone: where two lists
+/// of live lines have the same of these, the same rows are had, marked and seen whole.
+pub fn restrictions_and_own_grants_decide()
+    ensures may { (live other : List LineValues) (user : Option Text) (row : Row)
+        → filter (is_line_of Rst) live ≡ filter (is_line_of Rst) other → grants_of live user ≡ grants_of other user
+        → may_have live user row ≡ may_have other user row }
+    ensures touched { (live other : List LineValues) (row : Row)
+        → filter (is_line_of Rst) live ≡ filter (is_line_of Rst) other → is_touched live row ≡ is_touched other row }
+    ensures whole { (live other : List LineValues) (name : Nslc)
+        → filter (is_line_of Rst) live ≡ filter (is_line_of Rst) other → is_unrestricted live name ≡ is_unrestricted other name }
+{}
