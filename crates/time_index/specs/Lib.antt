@@ -1,4 +1,5 @@
 pub mod Doubles
 pub mod Index
 pub mod Spots
+pub mod Wholes
 pub mod Windows

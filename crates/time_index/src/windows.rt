@@ -8,8 +8,9 @@ ghost use Rattle.time_index.specs.Windows.{first_spot_at, lower_of, upper_of, fr
 
 use crate::channels::Channel;
 use crate::spot::Spot;
+use crate::wholes::Wholes;
 use channel_globs::Nslc;
-use dataselect::{DataQuery, Rank, Selection, Sight, is_chosen, rank_of};
+use dataselect::{DataQuery, Rank, Selection, Sight, rank_of};
 use exact_time::{Many, Moment, OutOfMemory};
 use mseed_header::Row;
 use std::alloc::Global;
@@ -148,17 +149,19 @@ pub fn candidates(
 // Adds the rank of the row at a place, if it is seen and asked for.
 fn add_rank<V: Sight>(
     ranks: &mut BTreeSet<Rank>,
+    wholes: &mut Wholes<'_, V>,
     rows: &[Row],
     place: usize,
-    sight: &V,
     query: &DataQuery,
 ) -> Result<(), OutOfMemory>
-    ensures ok { OnOk result (ranks.new.keys ≡ in_order rank_cmp ranks.old.keys (rank_if (passes (V.seen sight.now) query.now) place (slice_get rows.now place) [])) }
+    ensures ok { OnOk result (ranks.new.keys ≡ in_order rank_cmp ranks.old.keys (rank_if (passes (V.seen wholes.old.sight.now) query.now) place (slice_get rows.now place) [])) }
+    ensures sight { wholes.new.sight.now ≡ wholes.old.sight.now }
 {
     let Some(row) = rows.get(place) else {
         return Ok(());
     };
-    if is_chosen(sight, query, row) {
+    let chosen = wholes.is_chosen(query, row)?;
+    if chosen {
         ranks.insert(rank_of(place, row))?;
     }
     Ok(())
@@ -175,8 +178,9 @@ pub fn ranks_at<V: Sight>(
     ensures { IfOk result (λ ranks. ranks.keys ≡ in_order rank_cmp [] (ranks_at (passes (V.seen sight.now) query.now) rows.now places.now)) }
 {
     let mut ranks = BTreeSet::new(alloc);
+    let mut wholes = Wholes::new(alloc, sight);
     'places: for place in places {
-        add_rank(&mut ranks, rows, *place, sight, query)?;
+        add_rank(&mut ranks, &mut wholes, rows, *place, query)?;
     }
     Ok(ranks)
 }

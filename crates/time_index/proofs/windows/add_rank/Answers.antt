@@ -5,16 +5,14 @@ use Rattle.dataselect.proofs.Orders.{rank_same}
 use Rattle.time_index.proofs.Found.{rank_in, rank_out}
 use Rattle.time_index.proofs.windows.add_rank.Goals as goal
 
-pub returns-in_ok-insert : goal.returns-in_ok-insert
-returns-in_ok-insert g c = record {
-  ok = rank_in (passes (g.V.Sight.seen c.args.sight.now) c.args.query.now) c.args.place c.args.rows.now c.in-Some.row.now c.args.ranks.now.keys c.insert.new.self.keys
-      (slice_get-get_or c.args.rows.now c.args.place c.in-Some.row.now (search rules) ∙ ap Some (sym c.in-Some.ensures.lookup.1))
-      (sym c.is_chosen.ensures ∙ c.if-is_chosen.true) (rw (c.in_ok-insert.ensures.keys, rank_same, c.rank_of.ensures) refl);
-}
+pub returns-in_ok-insert-clause-ok : goal.returns-in_ok-insert-clause-ok
+returns-in_ok-insert-clause-ok g c =
+    rank_in (passes (g.V.Sight.seen c.args.wholes.now.sight.now) c.args.query.now) c.args.place c.args.rows.now c.in-Some.row.now c.args.ranks.now.keys c.insert.new.self.keys
+    (slice_get-get_or c.args.rows.now c.args.place c.in-Some.row.now (search rules) ∙ ap Some (sym c.in-Some.ensures.lookup.1))
+    (sym c.in_ok-chosen.ensures.chosen ∙ c.if-chosen.true) (rw (c.in_ok-insert.ensures.keys, rank_same, c.rank_of.ensures) refl)
 
-pub returns-else-is_chosen : goal.returns-else-is_chosen
-returns-else-is_chosen g c = record {
-  ok = rank_out (passes (g.V.Sight.seen c.args.sight.now) c.args.query.now) c.args.place c.args.rows.now c.in-Some.row.now c.args.ranks.now.keys
-      (slice_get-get_or c.args.rows.now c.args.place c.in-Some.row.now (search rules) ∙ ap Some (sym c.in-Some.ensures.lookup.1))
-      (sym c.is_chosen.ensures ∙ c.if-is_chosen.false);
-}
+pub returns-else-chosen-clause-ok : goal.returns-else-chosen-clause-ok
+returns-else-chosen-clause-ok g c =
+    rank_out (passes (g.V.Sight.seen c.args.wholes.now.sight.now) c.args.query.now) c.args.place c.args.rows.now c.in-Some.row.now c.args.ranks.now.keys
+    (slice_get-get_or c.args.rows.now c.args.place c.in-Some.row.now (search rules) ∙ ap Some (sym c.in-Some.ensures.lookup.1))
+    (sym c.in_ok-chosen.ensures.chosen ∙ c.if-chosen.false)

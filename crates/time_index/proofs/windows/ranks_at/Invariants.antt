@@ -7,5 +7,6 @@ use Rattle.time_index.proofs.windows.ranks_at.Given as goal
 
 abbrev pub invariant-places : goal.invariant-places
 invariant-places g l =
-    in_order rank_cmp l.ranks.keys (ranks_at (passes (g.V.Sight.seen l.sight) l.query) l.rows (drop l.place-index l.places))
-    ≡ in_order rank_cmp [] (ranks_at (passes (g.V.Sight.seen l.sight) l.query) l.rows l.places)
+    (l.wholes.sight.now ≡ l.sight)
+    × (in_order rank_cmp l.ranks.keys (ranks_at (passes (g.V.Sight.seen l.sight) l.query) l.rows (drop l.place-index l.places))
+    ≡ in_order rank_cmp [] (ranks_at (passes (g.V.Sight.seen l.sight) l.query) l.rows l.places))
