@@ -4,8 +4,9 @@ ghost use Rattle.exact_time.specs.Causes.{Rose};
 ghost use Rattle.http_wire.specs.Blocks.{EndsBlock, NoBlock, IsBlock};
 ghost use Rattle.http_wire.specs.Taking.{TookMore, StopsAs, AtEndIf};
 
+use crate::inbox::Inbox;
 use crate::link::Link;
-use crate::taking::{TakeStop, take_piece};
+use crate::taking::TakeStop;
 
 /// How the search for the end of a block ended.
 #[derive(Clone, Copy, Debug, PartialEq, Eq)]
@@ -45,11 +46,11 @@ fn block_end(text: &[u8], seen: usize) -> Option<usize>
 // was looked at is not looked at again when more comes.
 pub(crate) fn read_block<L: Link>(
     link: &mut L,
-    held: &mut Vec<u8>,
+    held: &mut Inbox,
     limit: usize,
 ) -> Result<BlockEnd, TakeStop>
-    ensures took { OnOk result (TookMore (L.left link.old) (L.left link.new) held.old.items held.new.items) }
-    ensures stops { IfOk result (λ end. StopsAs limit held.new.items end) }
+    ensures took { OnOk result (TookMore (L.left link.old) (L.left link.new) held.old held.new) }
+    ensures stops { IfOk result (λ end. StopsAs limit held.new end) }
     ensures all { IfOk result (λ end. AtEndIf (L.left link.new) end) }
     ensures fault { result ≡ Err TakeStop.LinkFault → Rose (L.faults link.old) (L.faults link.new) }
     ensures later { L.faults link.old ≤ L.faults link.new }
@@ -57,7 +58,7 @@ pub(crate) fn read_block<L: Link>(
 {
     let mut seen = 0;
     'pieces: loop {
-        if let Some(end) = block_end(held, seen) {
+        if let Some(end) = block_end(held.as_slice(), seen) {
             return if end <= limit {
                 Ok(BlockEnd::Block(end))
             } else {
@@ -68,7 +69,7 @@ pub(crate) fn read_block<L: Link>(
         if limit <= seen {
             return Ok(BlockEnd::Long);
         }
-        if !take_piece(link, held)? {
+        if !held.take_piece(link)? {
             return Ok(BlockEnd::Ended);
         }
     }

@@ -5,6 +5,7 @@ ghost use Rattle.http_wire.specs.Fronts.{after_space, has_long_target};
 ghost use Rattle.http_wire.specs.Taking.{skip_blank, Skipped, AtEndIf, FrontRead, front_size};
 
 use crate::block::{BlockEnd, read_block};
+use crate::inbox::Inbox;
 use crate::link::Link;
 use crate::taking::{TakeStop, hold_some};
 
@@ -26,32 +27,24 @@ fn skip_blank(text: &[u8]) -> &[u8]
     left
 }
 
-// Lets the first bytes of what is held go.
-pub(crate) fn drop_front(held: &mut Vec<u8>, count: usize)
-    requires { count ≤ length held.old.items }
-    ensures { held.new.items ≡ drop count held.old.items }
-{
-    held.drain(..count);
-}
-
 // Takes a piece where nothing is held, and lets go of the blank bytes. Answers how many these were.
-fn skip_piece<L: Link>(link: &mut L, held: &mut Vec<u8>) -> Result<usize, TakeStop>
-    ensures skipped { IfOk result (λ n. Skipped 1 (L.left link.old) (L.left link.new) held.old.items n held.new.items) }
+fn skip_piece<L: Link>(link: &mut L, held: &mut Inbox) -> Result<usize, TakeStop>
+    ensures skipped { IfOk result (λ n. Skipped 1 (L.left link.old) (L.left link.new) held.old n held.new) }
     ensures small { IfOk result (λ n. n < 2 ^ 63) }
     ensures fault { result ≡ Err TakeStop.LinkFault → Rose (L.faults link.old) (L.faults link.new) }
     ensures later { L.faults link.old ≤ L.faults link.new }
     ensures kept { L.written link.new ≡ L.written link.old }
 {
     hold_some(link, held)?;
-    let count = held.len() - skip_blank(held).len();
-    drop_front(held, count);
+    let count = held.len() - skip_blank(held.as_slice()).len();
+    held.drop_front(count);
     Ok(count)
 }
 
 // Lets go of the blank bytes before a request.
-fn skip_blanks<L: Link>(link: &mut L, held: &mut Vec<u8>, limit: usize) -> Result<usize, TakeStop>
+fn skip_blanks<L: Link>(link: &mut L, held: &mut Inbox, limit: usize) -> Result<usize, TakeStop>
     requires small { limit < 2 ^ 32 }
-    ensures skipped { IfOk result (λ n. Skipped limit (L.left link.old) (L.left link.new) held.old.items n held.new.items) }
+    ensures skipped { IfOk result (λ n. Skipped limit (L.left link.old) (L.left link.new) held.old n held.new) }
     ensures fault { result ≡ Err TakeStop.LinkFault → Rose (L.faults link.old) (L.faults link.new) }
     ensures later { L.faults link.old ≤ L.faults link.new }
     ensures kept { L.written link.new ≡ L.written link.old }
@@ -86,11 +79,11 @@ fn front_size(kind: BlockEnd, held: usize, room: usize) -> usize
 // Takes from the link until it is known how the front of a request ends.
 pub(crate) fn read_front<L: Link>(
     link: &mut L,
-    held: &mut Vec<u8>,
+    held: &mut Inbox,
     limit: usize,
 ) -> Result<Front, TakeStop>
     requires small { limit < 2 ^ 32 }
-    ensures front { IfOk result (FrontRead limit (L.left link.old) (L.left link.new) held.old.items held.new.items) }
+    ensures front { IfOk result (FrontRead limit (L.left link.old) (L.left link.new) held.old held.new) }
     ensures end { IfOk result (λ front. AtEndIf (L.left link.new) front.kind) }
     ensures fault { result ≡ Err TakeStop.LinkFault → Rose (L.faults link.old) (L.faults link.new) }
     ensures later { L.faults link.old ≤ L.faults link.new }

@@ -1,25 +1,35 @@
 //! What was taken from a link and isn't used yet.
-ghost use Rattle.std.specs.Prelude.{◌≡◌, [], IfOk};
+ghost use Rattle.std.specs.Prelude.{◌≡◌, ◌==◌, ◌<◌, ◌≤◌, ◌+◌, [], length, take, drop, IfOk, OnOk, Err, MatchBool};
+ghost use Rattle.std.specs.Io.KnownBytes.{Consumes, IsAtEnd};
+ghost use Rattle.exact_time.specs.Causes.{Rose};
+ghost use Rattle.http_wire.specs.Taking.{TookMore};
 
+use crate::link::Link;
+use crate::taking::TakeStop;
 use exact_time::OutOfMemory;
 use std::alloc::Global;
 use std::marker::Model;
 
-// How much room an inbox begins with.
-const FIRST_ROOM: usize = 4096;
+// How much room an inbox begins with, and how much is made where none is left.
+const PIECE: usize = 4096;
 
 /// Bytes that were taken from a link and not used yet, in order.
 #[derive(Drop)]
 pub struct Inbox {
-    pub(crate) bytes: Vec<u8>,
+    // The held bytes, and room behind them. It is cleared once, and lent until it is full.
+    room: Vec<u8>,
+    // How many of these bytes are held.
+    count: usize,
 }
 
 impl Model for Inbox {
-    ghost use Rattle.std.specs.Prelude.{List, ℕ};
+    ghost use Rattle.std.specs.Prelude.{List, ℕ, ◌≤◌, length, take};
 
     ghost Value = { List ℕ };
 
-    ghost view = { λ inbox. inbox.bytes.items };
+    ghost view = { λ inbox. take inbox.count inbox.room.items };
+
+    ghost invariant = { λ inbox. inbox.count ≤ length inbox.room.items };
 }
 
 impl Inbox {
@@ -27,7 +37,104 @@ impl Inbox {
     pub fn new(alloc: Global) -> Result<Inbox, OutOfMemory>
         ensures { IfOk result (λ inbox. inbox ≡ []) }
     {
-        let bytes = Vec::with_capacity(alloc, FIRST_ROOM)?;
-        Ok(Inbox { bytes })
+        let room = Vec::with_capacity(alloc, PIECE)?;
+        Ok(Inbox { room, count: 0 })
+    }
+
+    // The bytes that are held.
+    pub(crate) fn as_slice(&self) -> &[u8]
+        ensures { result.now ≡ self.now }
+    {
+        &self.room[..self.count]
+    }
+
+    // How many bytes are held.
+    pub(crate) fn len(&self) -> usize
+        ensures { result ≡ length self.now }
+    {
+        self.count
+    }
+
+    // Whether nothing is held.
+    pub(crate) fn is_empty(&self) -> bool
+        ensures { result ≡ (length self.now == 0) }
+    {
+        self.count == 0
+    }
+
+    // Lets the first bytes of what is held go. The others move to the front, and the room stays.
+    pub(crate) fn drop_front(&mut self, count: usize)
+        requires { count ≤ length self.old }
+        ensures { self.new ≡ drop count self.old }
+    {
+        self.room.copy_within(count..self.count, 0);
+        self.count -= count;
+    }
+
+    // Makes room for so many bytes in all.
+    pub(crate) fn make_room(&mut self, size: usize) -> Result<(), OutOfMemory>
+        ensures { self.new ≡ self.old }
+    {
+        lengthen(&mut self.room, size)
+    }
+
+    // Takes one piece behind what is held. False is the end of the input.
+    pub(crate) fn take_piece<L: Link>(&mut self, link: &mut L) -> Result<bool, TakeStop>
+        ensures took { OnOk result (TookMore (L.left link.old) (L.left link.new) self.old self.new) }
+        ensures more { IfOk result (λ more. MatchBool more (length self.old < length self.new) (self.new ≡ self.old)) }
+        ensures end { IfOk result (λ more. MatchBool more (Unit {0}) (IsAtEnd (L.left link.new))) }
+        ensures fault { result ≡ Err TakeStop.LinkFault → Rose (L.faults link.old) (L.faults link.new) }
+        ensures later { L.faults link.old ≤ L.faults link.new }
+        ensures kept { L.written link.new ≡ L.written link.old }
+    {
+        let more = take_behind(link, &mut self.room, self.count)?;
+        self.count += more;
+        Ok(more > 0)
+    }
+}
+
+// Makes the room as long as this, where it is shorter, by cleared bytes.
+fn lengthen(room: &mut Vec<u8>, size: usize) -> Result<(), OutOfMemory>
+    ensures front { take (length room.old.items) room.new.items ≡ room.old.items }
+    ensures longer { length room.old.items ≤ length room.new.items }
+    ensures size { OnOk result (size ≤ length room.new.items) }
+{
+    if room.len() < size {
+        room.resize(size, 0)?;
+    }
+    Ok(())
+}
+
+// Makes room behind so many bytes, where there is none.
+fn make_place(room: &mut Vec<u8>, count: usize) -> Result<(), OutOfMemory>
+    requires { count ≤ length room.old.items }
+    ensures front { take (length room.old.items) room.new.items ≡ room.old.items }
+    ensures longer { length room.old.items ≤ length room.new.items }
+    ensures place { OnOk result (count < length room.new.items) }
+{
+    if room.len() == count {
+        lengthen(room, count.saturating_add(PIECE))?;
+    }
+    Ok(())
+}
+
+// Lends the link what lies behind so many bytes. Answers how many bytes it gave.
+fn take_behind<L: Link>(link: &mut L, room: &mut Vec<u8>, count: usize) -> Result<usize, TakeStop>
+    requires { count ≤ length room.old.items }
+    ensures front { take count room.new.items ≡ take count room.old.items }
+    ensures within { count ≤ length room.new.items }
+    ensures fits { IfOk result (λ more. count + more ≤ length room.new.items) }
+    ensures gave { IfOk result (λ more. Consumes (L.left link.old) (L.left link.new) (take more (drop count room.new.items))) }
+    ensures end { IfOk result (λ more. more ≡ 0 → IsAtEnd (L.left link.new)) }
+    ensures fault { result ≡ Err TakeStop.LinkFault → Rose (L.faults link.old) (L.faults link.new) }
+    ensures later { L.faults link.old ≤ L.faults link.new }
+    ensures kept { L.written link.new ≡ L.written link.old }
+{
+    if make_place(room, count).is_err() {
+        return Err(TakeStop::OutOfMemory);
+    }
+    match link.take(&mut room[count..]) {
+        Ok(more) => Ok(more),
+        Err(_) => Err(TakeStop::LinkFault),
     }
 }

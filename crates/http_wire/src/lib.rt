@@ -4,7 +4,8 @@
 //! taken and not used yet. Its contract is words of `specs/Requests.antt`: the next request of all that
 //! was held and that the link gave, or why there is none, and what was written. It says nothing of the
 //! pieces in which the bytes came. It writes the interim reply (RFC 9110, section 10.1.1) and nothing
-//! else. [`MemoryLink`] is a link in memory; what each of its calls does is in `specs/Memory.antt`.
+//! else. [`put_all`] writes bytes to a link, however many it takes at a time. [`MemoryLink`] is a link in
+//! memory; what each of its calls does is in `specs/Memory.antt`.
 //!
 //! The definition, on whole lists of bytes: `specs/Blocks.antt` says where a head's block ends (RFC 9112,
 //! section 2.1), `specs/Fronts.antt` how a stream is cut into blank bytes, the front of a request and the
@@ -16,8 +17,9 @@
 //!
 //! Each byte of a head is looked at once for the end of its block, whatever the pieces; then the front is
 //! tested and parsed. A head with more fields than are read is parsed once more, with room for all, since
-//! a bad field behind the last that is read makes it no head. A body is taken into the inbox, which has
-//! the room before, and copied from there once.
+//! a bad field behind the last that is read makes it no head. Bytes are taken straight into the inbox,
+//! behind what it holds: its room is cleared once, and lent again until it is full, so a client may send
+//! a byte at a time. For a body the room is made before, and the body is copied from there once.
 #![tactic(auto)]
 
 mod asking;
@@ -51,3 +53,4 @@ pub use link::Link;
 pub use memory::MemoryLink;
 pub use reading::read_request;
 pub use request::Request;
+pub use writing::put_all;

@@ -7,7 +7,7 @@ ghost use Rattle.http_wire.specs.Requests.{TellsHead, GivesRequest, StopsSo, sto
 use crate::asking::closes;
 use crate::ending::{ReadEnd, Stop, StreamEnd};
 use crate::fields::{body_length, copied};
-use crate::front::{drop_front, read_front};
+use crate::front::read_front;
 use crate::head::Head;
 use crate::inbox::Inbox;
 use crate::judging::judged;
@@ -55,11 +55,11 @@ fn request_of(alloc: Global, head: Head, body: Bytes) -> Result<Request, OutOfMe
 fn read_item<L: Link>(
     alloc: Global,
     link: &mut L,
-    held: &mut Vec<u8>,
+    held: &mut Inbox,
     most: u64,
 ) -> Result<Request, Stop>
-    ensures request { IfOk result (GivesRequest most (L.left link.old) (L.left link.new) held.old.items held.new.items (L.written link.old) (L.written link.new)) }
-    ensures stops { IfErr result (StopsSo most (L.left link.old) (L.left link.new) held.old.items (L.written link.old) (L.written link.new)) }
+    ensures request { IfOk result (GivesRequest most (L.left link.old) (L.left link.new) held.old held.new (L.written link.old) (L.written link.new)) }
+    ensures stops { IfErr result (StopsSo most (L.left link.old) (L.left link.new) held.old (L.written link.old) (L.written link.new)) }
     ensures fault { result ≡ Err Stop.LinkFault → Rose (L.faults link.old) (L.faults link.new) }
     ensures later { L.faults link.old ≤ L.faults link.new }
 {
@@ -67,7 +67,7 @@ fn read_item<L: Link>(
         Ok(front) => front,
         Err(stop) => return Err(stopped(stop)),
     };
-    let head = match judged(alloc, most, &held[..front.size], front.kind) {
+    let head = match judged(alloc, most, &held.as_slice()[..front.size], front.kind) {
         Ok(head) => head,
         Err(stop) => return Err(stop),
     };
@@ -81,13 +81,13 @@ fn read_item<L: Link>(
         Ok(false) => return Err(Stop::BodyCut),
         Err(stop) => return Err(stopped(stop)),
     }
-    let Ok(body) = copied(alloc, &held[front.size..size]) else {
+    let Ok(body) = copied(alloc, &held.as_slice()[front.size..size]) else {
         return Err(Stop::OutOfMemory);
     };
     let Ok(request) = request_of(alloc, head, body) else {
         return Err(Stop::OutOfMemory);
     };
-    drop_front(held, size);
+    held.drop_front(size);
     Ok(request)
 }
 
@@ -121,7 +121,7 @@ pub fn read_request<L: Link>(
     ensures fault { result ≡ Err ReadEnd.LinkFault → Rose (L.faults link.old) (L.faults link.new) }
     ensures later { L.faults link.old ≤ L.faults link.new }
 {
-    match read_item(alloc, link, &mut inbox.bytes, max_body) {
+    match read_item(alloc, link, inbox, max_body) {
         Ok(request) => Ok(request),
         Err(stop) => Err(told_stop(stop)),
     }

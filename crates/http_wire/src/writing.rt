@@ -10,8 +10,9 @@ use crate::head::Head;
 use crate::link::Link;
 use exact_time::Failed;
 
-// Writes all the bytes, in as many pieces as the link makes of them.
-pub(crate) fn put_all<L: Link>(link: &mut L, bytes: &[u8]) -> Result<(), Failed>
+/// Writes all the bytes, in as many pieces as the link makes of them. Where the link fails, a first part of
+/// them was written.
+pub fn put_all<L: Link>(link: &mut L, bytes: &[u8]) -> Result<(), Failed>
     ensures ok { OnOk result (Gained (L.written link.old) (L.written link.new) bytes.now) }
     ensures part { OnErr result (WritesFront (L.written link.old) (L.written link.new) bytes.now) }
     ensures kept { L.left link.new ≡ L.left link.old }

@@ -6,11 +6,11 @@ use Rattle.http_wire.proofs.front.read_front.Goals as goal
 pub returns-clause-front : goal.returns-clause-front
 returns-clause-front g c =
     let mid = c.skip_blanks.new.held in
-    let some : 0 < length mid.items = omega (arith, not_empty mid.len c.if-is_empty.ensures, mid.ok.0) in
+    let some : 0 < length mid = not_empty (length mid) c.if-is_empty.ensures in
     let held = c.read_block.new.held in
     let n = c.in_ok-skipped.skipped in
     let kind = c.in_ok-kind.kind in
-    let same : front_size kind (length held.items) (c.args.limit - n) ≡ c.front_size-size.result = ap (λ k. front_size kind k (c.args.limit - n)) (let e : length held.items ≡ c.len.result = omega (arith, c.len.ensures, held.ok.0) in e) ∙ sym c.front_size-size.ensures in
-    let P : ℕ → Type 0 = λ k. FrontRead c.args.limit (g.L.Link.left c.args.link.now) (g.L.Link.left c.read_block.new.link) c.args.held.now.items held.items (record { kind = kind; size = k }) in
-    subst P same (front_read c.args.limit _ _ _ _ mid.items held.items n kind (omega (arith, c.if-limit-skipped.false)) some
+    let same : front_size kind (length held) (c.args.limit - n) ≡ c.front_size-size.result = ap (λ k. front_size kind k (c.args.limit - n)) (sym c.len.ensures) ∙ sym c.front_size-size.ensures in
+    let P : ℕ → Type 0 = λ k. FrontRead c.args.limit (g.L.Link.left c.args.link.now) (g.L.Link.left c.read_block.new.link) c.args.held.now held (record { kind = kind; size = k }) in
+    subst P same (front_read c.args.limit _ _ _ _ mid held n kind (omega (arith, c.if-limit-skipped.false)) some
     c.in_ok-skipped.ensures.skipped c.in_ok-kind.ensures.took c.in_ok-kind.ensures.stops)

@@ -5,21 +5,21 @@ use Rattle.http_wire.proofs.front.skip_blanks.Goals as goal
 
 pub returns-then-count-eq0-clause-skipped : goal.returns-then-count-eq0-clause-skipped
 returns-then-count-eq0-clause-skipped g c =
-    skip_on c.args.limit _ _ _ _ c.pieces.held.items _ _ _ c.pieces.invariant.gone c.in_ok-count.ensures.skipped (λ none lt. omega (arith, c.if-count-eq0.true))
+    skip_on c.args.limit _ _ _ _ c.pieces.held _ _ _ c.pieces.invariant.gone c.in_ok-count.ensures.skipped (λ none lt. omega (arith, c.if-count-eq0.true))
 
 pub returns-then-not-is_empty-clause-skipped : goal.returns-then-not-is_empty-clause-skipped
 returns-then-not-is_empty-clause-skipped g c =
-    skip_on c.args.limit _ _ _ _ c.pieces.held.items _ _ _ c.pieces.invariant.gone c.in_ok-count.ensures.skipped (λ none lt.
-    (let z : c.skip_piece.new.held.len ≡ 0 = omega (arith, c.skip_piece.new.held.ok.0, ap length none) in
+    skip_on c.args.limit _ _ _ _ c.pieces.held _ _ _ c.pieces.invariant.gone c.in_ok-count.ensures.skipped (λ none lt.
+    (let z : length c.skip_piece.new.held ≡ 0 = ap length none in
     let bad : false ≡ true = rw z at c.if-not-is_empty.ensures in absurd (false≢true bad)))
 
 pub returns-then-limit-skipped-clause-skipped : goal.returns-then-limit-skipped-clause-skipped
 returns-then-limit-skipped-clause-skipped g c =
-    skip_on c.args.limit _ _ _ _ c.pieces.held.items _ _ _ c.pieces.invariant.gone c.in_ok-count.ensures.skipped (λ none lt. absurd (omega (arith, lt, c.if-limit-skipped.true)))
+    skip_on c.args.limit _ _ _ _ c.pieces.held _ _ _ c.pieces.invariant.gone c.in_ok-count.ensures.skipped (λ none lt. absurd (omega (arith, lt, c.if-limit-skipped.true)))
 
 pub pieces-preserved : goal.pieces-preserved
 pieces-preserved g c = record {
-  gone = let_go_then _ _ _ _ c.pieces.held.items _ _ _ c.pieces.invariant.gone c.in_ok-count.ensures.skipped.gone;
+  gone = let_go_then _ _ _ _ c.pieces.held _ _ _ c.pieces.invariant.gone c.in_ok-count.ensures.skipped.gone;
   small = (let a = c.requires.small in omega (arith, a, c.if-limit-skipped.false));
   kept = c.skip_piece.ensures.kept ∙ c.pieces.invariant.kept;
   later = (let a = c.pieces.invariant.later in let b = c.skip_piece.ensures.later in omega arith);

@@ -5,6 +5,6 @@ use Rattle.http_wire.proofs.front.skip_piece.Goals as goal
 
 pub returns-clause-skipped : goal.returns-clause-skipped
 returns-clause-skipped g c =
-    let held = c.hold_some.new.held.items in
-    let left : c.skip_blank.result.now ≡ skip_blank held = c.skip_blank.ensures.same ∙ ap skip_blank c.deref.ensures.value in
-    skipped_now _ _ _ held _ _ c.in_ok-hold_some.ensures.took c.in_ok-hold_some.ensures.end (omega (arith, c.len.ensures, c.hold_some.new.held.ok.0, ap length left)) c.drop_front.ensures
+    let held = c.hold_some.new.held in
+    let left : c.skip_blank.result.now ≡ skip_blank held = c.skip_blank.ensures.same ∙ ap skip_blank c.as_slice.ensures in
+    skipped_now _ _ _ held _ _ c.in_ok-hold_some.ensures.took c.in_ok-hold_some.ensures.end (omega (arith, c.len.ensures, ap length left)) c.drop_front.ensures

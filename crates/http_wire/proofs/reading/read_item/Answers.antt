@@ -14,57 +14,57 @@ use Rattle.http_wire.proofs.reading.read_item.Goals as goal
 
 pub returns-in-Err-judged-clause-stops : goal.returns-in-Err-judged-clause-stops
 returns-in-Err-judged-clause-stops g c =
-    let mid = c.read_front.new.held.items in
+    let mid = c.read_front.new.held in
     let front = c.in-Ok.front in
     let P : List ℕ → Type 0 = λ x. StopsBySaying c.args.most (take front.size x) front.kind c.in-Err-judged.stop in
-    stops c.args.most _ _ _ mid _ _ front c.in-Err-judged.stop c.in-Ok.ensures.front (subst P c.deref.ensures.value c.in-Err-judged.ensures.err) c.in-Ok.ensures.end (search rules)
+    stops c.args.most _ _ _ mid _ _ front c.in-Err-judged.stop c.in-Ok.ensures.front (subst P c.as_slice.ensures c.in-Err-judged.ensures.err) c.in-Ok.ensures.end (search rules)
 
 pub returns-in-Ok-false-clause-stops : goal.returns-in-Ok-false-clause-stops
 returns-in-Ok-false-clause-stops g c =
-    let mid = c.read_front.new.held.items in
+    let mid = c.read_front.new.held in
     let front = c.in-Ok.front in
     let head = head_view c.in-Ok-judged.head in
     let P : List ℕ → Type 0 = λ x. FrontSays c.args.most (take front.size x) front.kind (Ok head) in
-    let T : Option (List ℕ) → Type 0 = λ o. TookMore o (g.L.Link.left c.fill.new.link) mid c.fill.new.held.items in
-    cuts c.args.most _ _ _ _ mid c.fill.new.held.items _ _ front head c.in-Ok.ensures.front (subst P c.deref.ensures.value c.in-Ok-judged.ensures.ok)
+    let T : Option (List ℕ) → Type 0 = λ o. TookMore o (g.L.Link.left c.fill.new.link) mid c.fill.new.held in
+    cuts c.args.most _ _ _ _ mid c.fill.new.held _ _ front head c.in-Ok.ensures.front (subst P c.as_slice.ensures c.in-Ok-judged.ensures.ok)
     (subst T c.send_interim.ensures.kept c.in-Ok-false.ensures.took) (search rules) (rw c.in-Ok-false.field-0-test at c.in-Ok-false.ensures.end) (search rules)
 
 pub returns-clause-request : goal.returns-clause-request
 returns-clause-request g c =
-    let mid = c.read_front.new.held.items in
+    let mid = c.read_front.new.held in
     let front = c.in-Ok.front in
     let head = head_view c.in-Ok-judged.head in
-    let held = c.fill.new.held.items in
+    let held = c.fill.new.held in
     let P : List ℕ → Type 0 = λ x. FrontSays c.args.most (take front.size x) front.kind (Ok head) in
     let T : Option (List ℕ) → Type 0 = λ o. TookMore o (g.L.Link.left c.fill.new.link) mid held in
     let size = front.size in
     let more = c.body_length-more.result in
-    let more_is : more ≡ body_length head.fields = c.body_length-more.ensures.value ∙ ap (λ (fs : List Field). body_length (map as_pair fs)) c.as_slice.ensures in
+    let more_is : more ≡ body_length head.fields = c.body_length-more.ensures.value ∙ ap (λ (fs : List Field). body_length (map as_pair fs)) c.as_slice-2.ensures in
     let full : size + more ≤ length held = rw c.in-Ok-true.field-0-test at c.in-Ok-true.ensures.full in
     let least : size + body_length head.fields ≤ length held = subst (λ (n : ℕ). size + n ≤ length held) more_is full in
     let gap : (size + more) - size ≡ more = omega arith in
     let body : c.in-Ok-request_of.request.body ≡ take (body_length head.fields) (drop size held) =
-    c.in-Ok-request_of.ensures.body ∙ c.in-Ok-copied.ensures ∙ ap (λ x. take ((size + more) - size) (drop size x)) c.deref-2.ensures.value
+    c.in-Ok-request_of.ensures.body ∙ c.in-Ok-copied.ensures ∙ ap (λ x. take ((size + more) - size) (drop size x)) c.as_slice-3.ensures
     ∙ ap (λ n. take n (drop size held)) (gap ∙ more_is) in
-    let rest : c.drop_front.new.held.items ≡ drop (size + body_length head.fields) held = c.drop_front.ensures ∙ ap (λ n. drop (size + n) held) more_is in
-    gives c.args.most _ _ _ _ mid held _ _ _ front head c.in-Ok-request_of.request c.in-Ok.ensures.front (subst P c.deref.ensures.value c.in-Ok-judged.ensures.ok)
+    let rest : c.drop_front.new.self ≡ drop (size + body_length head.fields) held = c.drop_front.ensures ∙ ap (λ n. drop (size + n) held) more_is in
+    gives c.args.most _ _ _ _ mid held _ _ _ front head c.in-Ok-request_of.request c.in-Ok.ensures.front (subst P c.as_slice.ensures c.in-Ok-judged.ensures.ok)
     (subst T c.send_interim.ensures.kept c.in-Ok-true.ensures.took) least body rest c.in-Ok-request_of.ensures.tells (search rules)
 
 pub returns-in-Err-fill-clause-stops : goal.returns-in-Err-fill-clause-stops
 returns-in-Err-fill-clause-stops g c =
-    let mid = c.read_front.new.held.items in
+    let mid = c.read_front.new.held in
     let front = c.in-Ok.front in
     let head = head_view c.in-Ok-judged.head in
     let P : List ℕ → Type 0 = λ x. FrontSays c.args.most (take front.size x) front.kind (Ok head) in
-    let reads = reads_head c.args.most _ _ _ mid front head c.in-Ok.ensures.front (subst P c.deref.ensures.value c.in-Ok-judged.ensures.ok) in
-    let S : Stop → Type 0 = λ s. StopsSo c.args.most (g.L.Link.left c.args.link.now) (g.L.Link.left c.fill.new.link) c.args.held.now.items (g.L.Link.written c.args.link.now) (g.L.Link.written c.fill.new.link) s in
+    let reads = reads_head c.args.most _ _ _ mid front head c.in-Ok.ensures.front (subst P c.as_slice.ensures c.in-Ok-judged.ensures.ok) in
+    let S : Stop → Type 0 = λ s. StopsSo c.args.most (g.L.Link.left c.args.link.now) (g.L.Link.left c.fill.new.link) c.args.held.now (g.L.Link.written c.args.link.now) (g.L.Link.written c.fill.new.link) s in
     subst S (sym c.stopped-in-Err-fill.ensures) (stops_late c.args.most _ _ _ _ _ head c.in-Err-fill.stop reads (search rules))
 
 pub returns-in_default-request_of-clause-stops : goal.returns-in_default-request_of-clause-stops
 returns-in_default-request_of-clause-stops g c =
-    let mid = c.read_front.new.held.items in
+    let mid = c.read_front.new.held in
     let front = c.in-Ok.front in
     let head = head_view c.in-Ok-judged.head in
     let P : List ℕ → Type 0 = λ x. FrontSays c.args.most (take front.size x) front.kind (Ok head) in
-    let reads = reads_head c.args.most _ _ _ mid front head c.in-Ok.ensures.front (subst P c.deref.ensures.value c.in-Ok-judged.ensures.ok) in
+    let reads = reads_head c.args.most _ _ _ mid front head c.in-Ok.ensures.front (subst P c.as_slice.ensures c.in-Ok-judged.ensures.ok) in
     inr (head, reads, search rules)
