@@ -1,11 +1,13 @@
 -- Worked examples of the definitions: 100 samples of IU ANMO 00 BHZ at 20 Hz from 2024-02-01T00:00:00.
-use Rattle.std.proofs.Common.{◌≡◌, ◌+ℤ◌, ℤ, true, false, List, [], ◌∷◌, Option, Some, None, refl, codes, pos}
+use Rattle.std.proofs.Common.{◌≡◌, ◌+ℤ◌, ℤ, true, false, List, [], ◌∷◌, Option, Some, None, Err, refl, codes, pos}
 use Rattle.epochs.specs.declared.kinds.LineKind.TheVariants.{Rst, Grt}
 use Rattle.epochs.specs.Fields.{Value, words, time, end, patterns}
 use Rattle.epochs.specs.Lines.{LineValues}
 use Rattle.epochs.specs.Values.{says}
 use Rattle.mseed_header.proofs.Examples.{anmo_row}
 use Rattle.access_digest.specs.Access.{touches, covers, may_have, is_unrestricted}
+use Rattle.access_digest.specs.Who.{authorized, is_fresh}
+use Rattle.access_digest.specs.declared.denial.Denial.TheVariants.{Absent}
 
 -- 2024-02-01T00:00:00, in microseconds since 1970
 abbrev midnight : ℤ
@@ -60,3 +62,20 @@ nobody_may_not = refl
 
 not_whole : is_unrestricted both anmo_row.header.name ≡ false
 not_whole = refl
+
+-- a nonce may be used from its issue second to 300 seconds later
+at_once : is_fresh (Some 1000) (Some 1000) ≡ true
+at_once = refl
+
+at_the_end : is_fresh (Some 1000) (Some 1300) ≡ true
+at_the_end = refl
+
+too_late : is_fresh (Some 1000) (Some 1301) ≡ false
+too_late = refl
+
+too_early : is_fresh (Some 1000) (Some 999) ≡ false
+too_early = refl
+
+-- of credentials without a header and of those for another target, nothing is read
+without_header : authorized None (codes "/") ≡ Err Absent
+without_header = refl

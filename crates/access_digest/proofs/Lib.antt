@@ -2,4 +2,8 @@ pub mod Decided
 pub mod Examples
 pub mod Isolation
 pub mod Lines
+pub mod OneCodes
+pub mod WideLines
 pub mod Wholes
+pub mod WhoFound
+pub mod Named

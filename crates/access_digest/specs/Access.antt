@@ -79,3 +79,8 @@ is_unrestricted live name = not (list_any (λ e. restricts e name) live)
 abbrev pub grants_of : List LineValues → Option Text → List LineValues
 grants_of live None = []
 grants_of live (Some user) = filter (is_grant_of user) live
+
+-- an element passes a test, where there is one
+abbrev pub is_there : {X : Type 0} → (X → Bool) → Option X → Bool
+is_there test None = false
+is_there test (Some x) = test x

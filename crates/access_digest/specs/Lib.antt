@@ -1,2 +1,4 @@
 pub mod Access
 pub mod AccessLaw
+pub mod Who
+pub mod WhoLaw

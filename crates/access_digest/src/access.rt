@@ -1,12 +1,12 @@
 //! Whether a user may have a row.
-ghost use Rattle.std.specs.Prelude.{◌≡◌, option_map};
-ghost use Rattle.std.specs.List.{list_any};
+ghost use Rattle.std.specs.Prelude.{◌≡◌, option_map, map};
+ghost use Rattle.std.specs.List.{list_any, slice_get};
 ghost use Rattle.epochs.specs.Views.{values_of_line};
-ghost use Rattle.access_digest.specs.Access.{restricts, touches, covers, is_touched, is_covered, is_unrestricted, may_have};
+ghost use Rattle.access_digest.specs.Access.{restricts, touches, covers, is_touched, is_covered, is_unrestricted, is_there, may_have};
 
 use crate::patterns::{Patterns, keeps_times, match_codes, meets_times};
 use channel_globs::Nslc;
-use epoch_catalog::Catalog;
+use epoch_catalog::{Catalog, Family};
 use epochs::{Line, User};
 use mseed_header::Row;
 
@@ -81,32 +81,108 @@ fn some_restricts(lines: &[Line], name: &Nslc) -> bool
     lines.iter().any(|line| restricts(line, name))
 }
 
-/// Whether a live restriction touches the row.
+// Whether the line at a place is a restriction that touches the row.
+fn touches_there(lines: &[Line], place: usize, row: &Row) -> bool
+    ensures { result ≡ is_there (λ line. touches (values_of_line line) row.now) (slice_get lines.now place) }
+{
+    match lines.get(place) {
+        Some(line) => touches(line, row),
+        None => false,
+    }
+}
+
+fn touches_at(lines: &[Line], places: &[usize], row: &Row) -> bool
+    ensures { result ≡ list_any (λ place. is_there (λ line. touches (values_of_line line) row.now) (slice_get lines.now place)) places.now }
+{
+    places.iter().any(|place| touches_there(lines, *place, row))
+}
+
+// Whether the line at a place is a grant of that user which covers the row.
+fn covers_there(user: &User, lines: &[Line], place: usize, row: &Row) -> bool
+    ensures { result ≡ is_there (λ line. covers user.now.name (values_of_line line) row.now) (slice_get lines.now place) }
+{
+    match lines.get(place) {
+        Some(line) => covers(user, line, row),
+        None => false,
+    }
+}
+
+fn covers_at(user: &User, lines: &[Line], places: &[usize], row: &Row) -> bool
+    ensures { result ≡ list_any (λ place. is_there (λ line. covers user.now.name (values_of_line line) row.now) (slice_get lines.now place)) places.now }
+{
+    places
+        .iter()
+        .any(|place| covers_there(user, lines, *place, row))
+}
+
+// Whether the line at a place is a restriction whose patterns match the name.
+fn restricts_there(lines: &[Line], place: usize, name: &Nslc) -> bool
+    ensures { result ≡ is_there (λ line. restricts (values_of_line line) name.now) (slice_get lines.now place) }
+{
+    match lines.get(place) {
+        Some(line) => restricts(line, name),
+        None => false,
+    }
+}
+
+fn restricts_at(lines: &[Line], places: &[usize], name: &Nslc) -> bool
+    ensures { result ≡ list_any (λ place. is_there (λ line. restricts (values_of_line line) name.now) (slice_get lines.now place)) places.now }
+{
+    places
+        .iter()
+        .any(|place| restricts_there(lines, *place, name))
+}
+
+/// Whether a live restriction touches the row: one whose network is written as the row's, or a wide one.
 pub fn is_touched(catalog: &Catalog, row: &Row) -> bool
     ensures { result ≡ is_touched catalog.now row.now }
 {
-    some_touches(catalog.lines(), row)
+    let network = row.header.name.network;
+    some_touches(catalog.family(&Family::RestrictionsOn(network)), row)
+        || touches_at(catalog.lines(), catalog.wide(&Family::Restrictions), row)
+}
+
+// Whether a live grant of this user covers the row.
+fn user_covers(catalog: &Catalog, user: &User, row: &Row) -> bool
+    ensures { result ≡ list_any (λ e. covers user.now.name e row.now) catalog.now }
+{
+    let name = user.name.as_slice();
+    let network = row.header.name.network;
+    some_covers(user, catalog.family(&Family::GrantsOn(name, network)), row)
+        || covers_at(
+            user,
+            catalog.lines(),
+            catalog.wide(&Family::GrantsOf(name)),
+            row,
+        )
 }
 
 // Whether a live grant of the user covers the row.
 fn is_covered(catalog: &Catalog, user: Option<&User>, row: &Row) -> bool
     ensures { result ≡ is_covered catalog.now (option_map (λ u. u.now.name) user.entry) row.now }
 {
-    match user {
-        Some(user) => some_covers(user, catalog.lines(), row),
-        None => false,
-    }
+    user.is_some_and(|user| user_covers(catalog, user, row))
+}
+
+// Whether the patterns of a live restriction match the name.
+fn is_restricted(catalog: &Catalog, name: &Nslc) -> bool
+    ensures { result ≡ list_any (λ e. restricts e name.now) catalog.now }
+{
+    let written = catalog.family(&Family::RestrictionsOn(name.network));
+    some_restricts(written, name)
+        || restricts_at(catalog.lines(), catalog.wide(&Family::Restrictions), name)
 }
 
 /// Whether the patterns of no live restriction match the name.
 pub fn is_unrestricted(catalog: &Catalog, name: &Nslc) -> bool
     ensures { result ≡ is_unrestricted catalog.now name.now }
 {
-    !some_restricts(catalog.lines(), name)
+    !is_restricted(catalog, name)
 }
 
 /// Whether a caller may have the row: no live restriction touches it, or a live grant of the user covers
-/// it. Without a user there is no grant. Takes no memory.
+/// it. Without a user there is no grant. Takes no memory, and looks at the restrictions, and at the user's
+/// grants, whose network is written as the row's or isn't one code.
 pub fn may(catalog: &Catalog, user: Option<&User>, row: &Row) -> bool
     ensures { result ≡ may_have catalog.now (option_map (λ u. u.now.name) user.entry) row.now }
 {

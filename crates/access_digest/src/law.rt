@@ -1,5 +1,5 @@
-//! The laws of who may have a row.
-ghost use Rattle.std.specs.Prelude.{◌≡◌, ◌↔◌, IsTrue, List, Option, map, filter};
+//! The laws of who may have a row, and of who asks.
+ghost use Rattle.std.specs.Prelude.{◌≡◌, ◌↔◌, IsTrue, List, Option, Ok, map, filter};
 ghost use Rattle.channel_globs.specs.declared.nslc.Nslc.{Nslc};
 ghost use Rattle.epochs.specs.declared.kinds.LineKind.TheVariants.{Rst};
 ghost use Rattle.epochs.specs.declared.line.Line.{Line};
@@ -10,6 +10,11 @@ ghost use Rattle.epoch_rules.specs.Rules.{is_line_of};
 ghost use Rattle.mseed_header.specs.declared.row.Row.{Row};
 ghost use Rattle.access_digest.specs.Access.{grants_of, is_touched, is_unrestricted, may_have};
 ghost use Rattle.access_digest.specs.AccessLaw.{IsTouched, MayHave};
+ghost use Rattle.access_digest.specs.Who.{who_of};
+ghost use Rattle.access_digest.specs.WhoLaw.{Names};
+ghost use Rattle.exact_time.specs.declared.moment.Moment.{Moment};
+ghost use Rattle.http_digest.specs.declared.authorization.Credentials.{Credentials};
+ghost use Rattle.http_digest.specs.declared.secret.Secret.{Secret};
 
 /// A restriction touches a row where its patterns match the four codes, the row's last sample isn't before
 /// its start, and the first isn't after its end. A grant covers a row where its patterns match, the first
@@ -30,4 +35,12 @@ pub fn restrictions_and_own_grants_decide()
         → filter (is_line_of Rst) live ≡ filter (is_line_of Rst) other → is_touched live row ≡ is_touched other row }
     ensures whole { (live other : List LineValues) (name : Nslc)
         → filter (is_line_of Rst) live ≡ filter (is_line_of Rst) other → is_unrestricted live name ≡ is_unrestricted other name }
+{}
+
+/// Credentials name a user exactly where their header spells an authorization for their target and this user,
+/// whose nonce was issued at most 300 seconds ago and not later than now, and whose response is the one that
+/// this live user has to give.
+pub fn credentials_name_whom_they_prove()
+    ensures { (live : List LineValues) (asked : Credentials) (now : Moment) (secret : Secret) (user : Text)
+        → (who_of live asked now secret ≡ Ok user) ↔ Names live asked now secret user }
 {}

@@ -1,4 +1,6 @@
 //! Restrictions and grants over one record, with ample memory.
+mod callers;
+
 use crate::{Pass, may};
 use channel_globs::{Part, PatternList};
 use dataselect::{DataQuery, DataRefusal, Nodata, PlainShelf, Selection, Shelf, Sight, answer};
@@ -8,6 +10,7 @@ use exact_time::{Many, Moment};
 use mseed_header::{Row, cut_records};
 use std::alloc::Global;
 use std::test::Fail;
+use time_index::IndexedShelf;
 
 // The head of a record: IU ANMO 00 BHZ, quality D, 100 samples at 20 Hz from 2024-02-01T00:00:00, of
 // which the last is at 00:00:04.95.
@@ -191,4 +194,80 @@ fn a_name_is_whole_where_no_restriction_matches_it(rt: HostRuntime) -> Result<()
         }
         _ => Err("not one row".into()),
     }
+}
+
+// Inserts the record with another network and channel, so many seconds later.
+fn insert<S: Shelf>(
+    alloc: Global,
+    shelf: &mut S,
+    network: u8,
+    channel: u8,
+    second: u8,
+) -> Result<(), Fail> {
+    let mut record = anmo_record();
+    record[17] = channel;
+    record[19] = network;
+    record[26] = second;
+    for row in cut_records(alloc, &record, 1, Moment { micros: 5 })?.into_vec() {
+        if shelf.len() < 1000 {
+            shelf.insert(row)?;
+        }
+    }
+    Ok(())
+}
+
+// Six records of three channels of two networks, of which the first comes twice.
+fn fill<S: Shelf>(alloc: Global, shelf: &mut S) -> Result<(), Fail> {
+    insert(alloc, shelf, b'U', b'Z', 0)?;
+    insert(alloc, shelf, b'U', b'Z', 10)?;
+    insert(alloc, shelf, b'U', b'N', 0)?;
+    insert(alloc, shelf, b'V', b'Z', 20)?;
+    insert(alloc, shelf, b'U', b'Z', 0)?;
+    insert(alloc, shelf, b'U', b'Z', 20)?;
+    insert(alloc, shelf, b'V', b'Z', 0)
+}
+
+// The places that each shelf chooses are these, in this order.
+fn choose_alike(alloc: Global, pass: &Pass<'_>, wanted: &[usize]) -> Result<bool, Fail> {
+    let mut plain = PlainShelf::new(alloc);
+    fill(alloc, &mut plain)?;
+    let mut indexed = IndexedShelf::new(alloc);
+    fill(alloc, &mut indexed)?;
+    let query = whole_query(alloc)?;
+    let by_plain = plain.choose(pass, &query)?;
+    let by_index = indexed.choose(pass, &query)?;
+    Ok(by_plain.as_slice() == wanted && by_index.as_slice() == wanted)
+}
+
+#[test]
+fn both_shelves_choose_what_a_caller_may_have(rt: HostRuntime) -> Result<(), Fail> {
+    let alloc = rt.alloc();
+    let late = "RST|IU|*|*|BHZ|2024-02-01T00:00:05|2024-02-01T00:00:12\n";
+    let wide = "RST|I?,XX|ANMO|*|*|2024-01-01|\n";
+    let granted =
+        "GRT|ada|IU|ANMO|00|BHZ|2024-02-01T00:00:10|\nGRT|ada|?V|*|*|*|2024-01-01|2024-02-01T00:00:05\n";
+    for (bodies, nobody, ada) in [
+        (
+            [late].as_slice(),
+            [2, 0, 4, 5, 3].as_slice(),
+            [2, 0, 4, 5, 3].as_slice(),
+        ),
+        (&[late, granted], &[2, 0, 4, 5, 3], &[2, 0, 1, 4, 5, 3]),
+        (&[wide], &[], &[]),
+        (&[wide, granted], &[], &[1, 4, 5]),
+        (&[RESTRICTION, GRANT], &[2, 5, 3], &[2, 0, 1, 4, 5, 3]),
+    ] {
+        let catalog = catalog_of(alloc, bodies)?;
+        let pass = Pass {
+            catalog: &catalog,
+            user: None,
+        };
+        assert!(rt; choose_alike(alloc, &pass, nobody)?, "nobody");
+        let pass = Pass {
+            catalog: &catalog,
+            user: catalog.user(b"ada"),
+        };
+        assert!(rt; choose_alike(alloc, &pass, ada)?, "ada");
+    }
+    Ok(())
 }

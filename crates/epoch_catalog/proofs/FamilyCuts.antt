@@ -1,5 +1,5 @@
 -- The lines of a family are those between two places of the lines in order.
-use Rattle.std.proofs.Common.{◌≡◌, ℕ, zero, suc, ◌<◌, ◌≤◌, Bool, true, false, List, [], ◌∷◌, ◌++◌, length, take, drop, map, filter, refl, ap, sym, ◌∙◌, slice_index_or, arith}
+use Rattle.std.proofs.Common.{◌≡◌, ℕ, zero, suc, ◌<◌, ◌≤◌, Bool, true, false, List, [], ◌∷◌, length, take, drop, map, filter, refl, ap, sym, ◌∙◌, slice_index_or, arith}
 use Rattle.std.specs.Bool.{⊤}
 use Rattle.std.specs.declared.cmp.Ordering.{Ordering}
 use Rattle.std.specs.declared.cmp.Ordering.TheVariants.{Less, Equal, Greater}
@@ -14,7 +14,7 @@ use Rattle.epoch_rules.specs.Catalog.{IsCatalog}
 use Rattle.epoch_rules.specs.KeyOrder.{key_parts_of, line_cmp}
 use Rattle.epoch_rules.specs.LiveLines.{is_said}
 use Rattle.epoch_catalog.specs.Families.{is_in, family_place}
-use Rattle.epoch_catalog.proofs.Cuts.{all_front, all_back, all_taken, all_dropped, all_mapped, filter_none, filter_whole, filter_joined, filter_mapped, halves}
+use Rattle.epoch_catalog.proofs.Cuts.{IsPlaced, all_mapped, filter_mapped, cut_between}
 use Rattle.epoch_catalog.proofs.FamilyPlaces.{before_stays, within_stays, in_by_place}
 
 -- where a line stands to a family
@@ -27,7 +27,7 @@ is_before f line = is_lt (place_at f line)
 abbrev pub is_not_behind : Family → Line → Bool
 is_not_behind f line = is_le (place_at f line)
 
-abbrev Rises : {X : Type 0} → (X → X → Type 0) → List X → Type 0
+abbrev pub Rises : {X : Type 0} → (X → X → Type 0) → List X → Type 0
 Rises R [] = ⊤
 Rises R (x ∷ xs) = AllByRecursion (R x) xs × Rises R xs
 
@@ -36,12 +36,8 @@ one_of P [] all j d lt = absurd (omega (arith, lt))
 one_of P (x ∷ xs) all zero d lt = all.0
 one_of P (x ∷ xs) all (suc j) d lt = one_of P xs all.1 j d (omega (arith, lt))
 
-nothing_behind : {X : Type 0} (xs : List X) → xs ++ [] ≡ xs
-nothing_behind [] = refl
-nothing_behind (x ∷ xs) = ap (λ ys. x ∷ ys) (nothing_behind xs)
-
 -- a test that goes back along the order cuts each list in order in two
-parted : {X : Type 0} (R : X → X → Type 0) (p : X → Bool) → ((x y : X) → R x y → p y ≡ true → p x ≡ true) → (xs : List X) → Rises R xs → IsPartitionedBy p xs
+pub parted : {X : Type 0} (R : X → X → Type 0) (p : X → Bool) → ((x y : X) → R x y → p y ≡ true → p x ≡ true) → (xs : List X) → Rises R xs → IsPartitionedBy p xs
 parted R p step [] h i j d le lt k = absurd (omega (arith, lt))
 parted R p step (x ∷ xs) h zero zero d le lt k = k
 parted R p step (x ∷ xs) h zero (suc j) d le lt k = step x (slice_index_or xs j d) (one_of (R x) xs h.0 j d (omega (arith, lt))) k
@@ -68,10 +64,6 @@ rest_parted f lines n h =
     parted (λ x y. line_cmp (values_of_line x) (values_of_line y) ≡ Less) (is_not_behind f) (λ x y le k. within_stays f (key_parts_of (values_of_line x)) (key_parts_of (values_of_line y)) le k) (drop n lines)
     (rises_dropped _ n lines (rises_mapped lines h))
 
-all_two : {X : Type 0} (P Q R : X → Type 0) → ((x : X) → P x → Q x → R x) → (xs : List X) → AllByRecursion P xs → AllByRecursion Q xs → AllByRecursion R xs
-all_two P Q R step [] ps qs = tt
-all_two P Q R step (x ∷ xs) ps qs = (step x ps.0 qs.0, all_two P Q R step xs ps.1 qs.1)
-
 lt_apart : (a : Ordering) → is_lt a ≡ true → is_eq a ≡ false
 lt_apart Less h = refl
 lt_apart Equal h = absurd (true≢false (sym h))
@@ -87,6 +79,18 @@ between Less h k = absurd (true≢false h)
 between Equal h k = refl
 between Greater h k = absurd (true≢false (sym k))
 
+placed : (f : Family) (x : Line) → is_said (values_of_line x) ≡ true → IsPlaced (λ l. is_in f (values_of_line l)) (is_before f) (is_not_behind f) x
+placed f x said =
+    let here : is_in f (values_of_line x) ≡ is_eq (place_at f x) = in_by_place f (values_of_line x) said in record {
+      early = λ k. here ∙ lt_apart (place_at f x) k;
+      within = λ k l. here ∙ between (place_at f x) k l;
+      late = λ k. here ∙ gt_apart (place_at f x) k;
+    }
+
+all_placed : (f : Family) (lines : List Line) → AllByRecursion (λ x. is_said (values_of_line x) ≡ true) lines → AllByRecursion (IsPlaced (λ l. is_in f (values_of_line l)) (is_before f) (is_not_behind f)) lines
+all_placed f [] said = tt
+all_placed f (x ∷ lines) said = (placed f x said.0, all_placed f lines said.1)
+
 pub family_cut : (f : Family) (lines : List Line) → IsCatalog (map values_of_line lines) → (i j : ℕ) → i ≤ length lines → j ≤ length (drop i lines)
     → IsPartitionPoint (λ x. is_before f x ≡ true) (λ x. is_before f x ≡ false) lines i
     → IsPartitionPoint (λ x. is_not_behind f x ≡ true) (λ x. is_not_behind f x ≡ false) (drop i lines) j
@@ -94,19 +98,4 @@ pub family_cut : (f : Family) (lines : List Line) → IsCatalog (map values_of_l
 family_cut f lines catalog i j fits fits2 first rest =
     let p : Line → Bool = λ x. is_in f (values_of_line x) in
     let stated : AllByRecursion (λ x. is_said (values_of_line x) ≡ true) lines = all_mapped (λ e. is_said e ≡ true) values_of_line lines catalog.states in
-    let behind : AllByRecursion (λ x. is_said (values_of_line x) ≡ true) (drop i lines) = all_dropped _ i lines stated in
-    let front : filter p (take i lines) ≡ [] =
-    filter_none p (take i lines) (all_two (λ x. is_said (values_of_line x) ≡ true) (λ x. is_before f x ≡ true) (λ x. p x ≡ false) (λ x s k. in_by_place f (values_of_line x) s ∙ lt_apart _ k) (take i lines)
-    (all_taken _ i lines stated) (all_front _ lines i first.0 fits)) in
-    let end : filter p (drop j (drop i lines)) ≡ [] =
-    filter_none p (drop j (drop i lines)) (all_two (λ x. is_said (values_of_line x) ≡ true) (λ x. is_not_behind f x ≡ false) (λ x. p x ≡ false) (λ x s k. in_by_place f (values_of_line x) s ∙ gt_apart _ k) (drop j (drop i lines))
-    (all_dropped _ j (drop i lines) behind) (all_back _ (drop i lines) j rest.1)) in
-    let stands : AllByRecursion (λ x. (is_said (values_of_line x) ≡ true) × (is_before f x ≡ false)) (drop i lines) =
-    all_two (λ x. is_said (values_of_line x) ≡ true) (λ x. is_before f x ≡ false) (λ x. (is_said (values_of_line x) ≡ true) × (is_before f x ≡ false)) (λ x s k. (s, k)) (drop i lines) behind (all_back _ lines i first.1) in
-    let middle : filter p (take j (drop i lines)) ≡ take j (drop i lines) =
-    filter_whole p (take j (drop i lines)) (all_two (λ x. (is_said (values_of_line x) ≡ true) × (is_before f x ≡ false)) (λ x. is_not_behind f x ≡ true) (λ x. p x ≡ true) (λ x s k. in_by_place f (values_of_line x) s.0 ∙ between _ s.1 k) (take j (drop i lines))
-    (all_taken _ j (drop i lines) stands) (all_front _ (drop i lines) j rest.0 fits2)) in
-    let split : filter p lines ≡ filter p (take i lines) ++ filter p (drop i lines) = ap (filter p) (sym (halves i lines)) ∙ filter_joined p (take i lines) (drop i lines) in
-    let split2 : filter p (drop i lines) ≡ filter p (take j (drop i lines)) ++ filter p (drop j (drop i lines)) = ap (filter p) (sym (halves j (drop i lines))) ∙ filter_joined p (take j (drop i lines)) (drop j (drop i lines)) in
-    let whole : filter p lines ≡ take j (drop i lines) ++ [] = split ∙ (λ k. front k ++ split2 k) ∙ (λ k. middle k ++ end k) in
-    ap (map values_of_line) (sym (whole ∙ nothing_behind (take j (drop i lines)))) ∙ filter_mapped values_of_line (is_in f) lines
+    ap (map values_of_line) (cut_between p (is_before f) (is_not_behind f) lines i j (all_placed f lines stated) fits fits2 first rest) ∙ filter_mapped values_of_line (is_in f) lines

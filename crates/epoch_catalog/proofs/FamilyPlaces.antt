@@ -29,6 +29,11 @@ front_cmp family.Channels p q = nat_cmp p.rank q.rank
 front_cmp (family.StationsOf network) p q = ordering_then (nat_cmp p.rank q.rank) (text_cmp p.first q.first)
 front_cmp (family.ChannelsOf network station) p q =
     ordering_then (nat_cmp p.rank q.rank) (ordering_then (text_cmp p.first q.first) (text_cmp p.second q.second))
+front_cmp family.Restrictions p q = nat_cmp p.rank q.rank
+front_cmp (family.RestrictionsOn network) p q = ordering_then (nat_cmp p.rank q.rank) (text_cmp p.first q.first)
+front_cmp (family.GrantsOf user) p q = ordering_then (nat_cmp p.rank q.rank) (text_cmp p.first q.first)
+front_cmp (family.GrantsOn user network) p q =
+    ordering_then (nat_cmp p.rank q.rank) (ordering_then (text_cmp p.first q.first) (text_cmp p.second q.second))
 
 abbrev pub with_front : KeyParts → ℕ → Text → Text → KeyParts
 with_front p rank first second = record {
@@ -48,6 +53,10 @@ front_of family.Stations p = with_front p 1 p.first p.second
 front_of family.Channels p = with_front p 2 p.first p.second
 front_of (family.StationsOf network) p = with_front p 1 network p.second
 front_of (family.ChannelsOf network station) p = with_front p 2 network station
+front_of family.Restrictions p = with_front p 4 p.first p.second
+front_of (family.RestrictionsOn network) p = with_front p 4 network p.second
+front_of (family.GrantsOf user) p = with_front p 5 user.now p.second
+front_of (family.GrantsOn user network) p = with_front p 5 user.now network
 
 place_is : (f : Family) (p q : KeyParts) → family_place f p ≡ front_cmp f p (front_of f q)
 place_is family.Networks p q = refl
@@ -55,6 +64,10 @@ place_is family.Stations p q = refl
 place_is family.Channels p q = refl
 place_is (family.StationsOf network) p q = refl
 place_is (family.ChannelsOf network station) p q = refl
+place_is family.Restrictions p q = refl
+place_is (family.RestrictionsOn network) p q = refl
+place_is (family.GrantsOf user) p q = refl
+place_is (family.GrantsOn user network) p q = refl
 
 rank_total : IsTotalOrder (λ (p q : KeyParts). nat_cmp p.rank q.rank)
 rank_total = total_on (λ (p : KeyParts). p.rank) nat_cmp_total
@@ -71,6 +84,10 @@ front_total family.Stations = rank_total
 front_total family.Channels = rank_total
 front_total (family.StationsOf network) = then_total rank_total first_total
 front_total (family.ChannelsOf network station) = then_total rank_total (then_total first_total second_total)
+front_total family.Restrictions = rank_total
+front_total (family.RestrictionsOn network) = then_total rank_total first_total
+front_total (family.GrantsOf user) = then_total rank_total first_total
+front_total (family.GrantsOn user network) = then_total rank_total (then_total first_total second_total)
 
 -- what is less as a whole isn't greater in front
 less_1 : (a b : Ordering) → ordering_then a b ≡ Less → is_gt a ≡ false
@@ -102,6 +119,10 @@ front_rises family.Stations p q h = less_1 _ _ h
 front_rises family.Channels p q h = less_1 _ _ h
 front_rises (family.StationsOf network) p q h = less_2 (nat_cmp p.rank q.rank) (text_cmp p.first q.first) (behind_first p q) h
 front_rises (family.ChannelsOf network station) p q h = less_3 (nat_cmp p.rank q.rank) (text_cmp p.first q.first) (text_cmp p.second q.second) (behind_second p q) h
+front_rises family.Restrictions p q h = less_1 _ _ h
+front_rises (family.RestrictionsOn network) p q h = less_2 (nat_cmp p.rank q.rank) (text_cmp p.first q.first) (behind_first p q) h
+front_rises (family.GrantsOf user) p q h = less_2 (nat_cmp p.rank q.rank) (text_cmp p.first q.first) (behind_first p q) h
+front_rises (family.GrantsOn user network) p q h = less_3 (nat_cmp p.rank q.rank) (text_cmp p.first q.first) (text_cmp p.second q.second) (behind_second p q) h
 
 lt_stays : {K : Type 0} {R : K → K → Ordering} (o : IsTotalOrder R) (x y z : K) → is_gt (R x y) ≡ false → is_lt (R y z) ≡ true → is_lt (R x z) ≡ true
 lt_stays {K} {R} o x y z h k =
@@ -153,16 +174,27 @@ and_joined : (a b c : Bool) → (a && (b && c)) ≡ (a && b && c)
 and_joined true b c = refl
 and_joined false b c = refl
 
+one_says : (kind : LineKind) (rank : ℕ) (p : KeyParts) (first : Text) → (rank_of kind == rank && bytes_eq p.first first) ≡ is_eq (ordering_then (nat_cmp (rank_of kind) rank) (text_cmp p.first first))
+one_says kind rank p first = sym (both_eq _ _ ∙ (λ i. same_rank (rank_of kind) rank i && same_text p.first first i))
+
+two_say : (kind : LineKind) (rank : ℕ) (p : KeyParts) (first second : Text)
+    → (rank_of kind == rank && bytes_eq p.first first && bytes_eq p.second second) ≡ is_eq (ordering_then (nat_cmp (rank_of kind) rank) (ordering_then (text_cmp p.first first) (text_cmp p.second second)))
+two_say kind rank p first second =
+    sym (both_eq _ _
+    ∙ (λ i. same_rank (rank_of kind) rank i && both_eq (text_cmp p.first first) (text_cmp p.second second) i)
+    ∙ (λ i. (rank_of kind == rank) && (same_text p.first first i && same_text p.second second i))
+    ∙ and_joined (rank_of kind == rank) _ _)
+
 in_says : (f : Family) (kind : LineKind) (values : List Value) → is_in f (line_values (Says kind) values) ≡ is_eq (family_place f (key_parts_of (line_values (Says kind) values)))
 in_says family.Networks kind values = sym (same_rank _ _)
 in_says family.Stations kind values = sym (same_rank _ _)
 in_says family.Channels kind values = sym (same_rank _ _)
-in_says (family.StationsOf network) kind values = sym (both_eq _ _ ∙ (λ i. same_rank (rank_of kind) 1 i && same_text (key_parts_of (line_values (Says kind) values)).first network i))
-in_says (family.ChannelsOf network station) kind values =
-    sym (both_eq _ _
-    ∙ (λ i. same_rank (rank_of kind) 2 i && both_eq (text_cmp (key_parts_of (line_values (Says kind) values)).first network) (text_cmp (key_parts_of (line_values (Says kind) values)).second station) i)
-    ∙ (λ i. (rank_of kind == 2) && (same_text (key_parts_of (line_values (Says kind) values)).first network i && same_text (key_parts_of (line_values (Says kind) values)).second station i))
-    ∙ and_joined (rank_of kind == 2) _ _)
+in_says (family.StationsOf network) kind values = one_says kind 1 (key_parts_of (line_values (Says kind) values)) network
+in_says (family.ChannelsOf network station) kind values = two_say kind 2 (key_parts_of (line_values (Says kind) values)) network station
+in_says family.Restrictions kind values = sym (same_rank _ _)
+in_says (family.RestrictionsOn network) kind values = one_says kind 4 (key_parts_of (line_values (Says kind) values)) network
+in_says (family.GrantsOf user) kind values = one_says kind 5 (key_parts_of (line_values (Says kind) values)) user.now
+in_says (family.GrantsOn user network) kind values = two_say kind 5 (key_parts_of (line_values (Says kind) values)) user.now network
 
 pub in_by_place : (f : Family) (e : LineValues) → is_said e ≡ true → is_in f e ≡ is_eq (family_place f (key_parts_of e))
 in_by_place f e h = by_head e.head refl

@@ -6,3 +6,4 @@ pub mod Heads
 pub mod LiveMembers
 pub mod Merged
 pub mod UsersFound
+pub mod WidePlaces

@@ -1,5 +1,5 @@
 -- Live lines and heads, which are the last new lines of their keys, merged from the last key to the first.
-use Rattle.std.proofs.Common.{◌≡◌, Bool, true, false, cond, ◌||◌, List, [], ◌∷◌, ◌++◌, filter, map, reverse, Option, Some, None, refl, sym, ap, subst, ◌∙◌, append_assoc, Ordering, if◌then◌else◌}
+use Rattle.std.proofs.Common.{◌≡◌, ◌≤◌, Bool, true, false, cond, ◌||◌, List, [], ◌∷◌, ◌++◌, length, filter, map, reverse, Option, Some, None, refl, sym, ap, subst, ◌∙◌, append_assoc, arith, Ordering, if◌then◌else◌}
 use Rattle.std.specs.Option.{option_or, is_some}
 use Rattle.std.specs.List.{list_any, AllByRecursion}
 use Rattle.std.specs.List.Sorted.{IsPermutation, IsStrictlySortedBy}
@@ -273,3 +273,13 @@ pub map_reversed : {X : Type 0} (f : X → LineValues) (xs : List X) → map f (
 map_reversed f [] = refl
 map_reversed f (x ∷ xs) =
     ap (map f) (reverse-append (x ∷ []) xs) ∙ map-append f (reverse xs) (x ∷ []) ∙ ap (λ ls. ls ++ f x ∷ []) (map_reversed f xs) ∙ sym (reverse-append (f x ∷ []) (map f xs))
+
+-- no more lines are the last of their keys than there are
+pub few_last : (lines : List LineValues) → length (last_lines lines) ≤ length lines
+few_last [] = omega arith
+few_last (e ∷ later) =
+    let few = few_last later in
+    elim (is_replaced later e) as (λ b. length (if b then last_lines later else e ∷ last_lines later) ≤ length (e ∷ later)) [
+      | true ↦ omega (arith, few)
+      | false ↦ omega (arith, few)
+    ]

@@ -1,3 +1,4 @@
 pub mod Families
 pub mod LiveLaw
 pub mod Merging
+pub mod Wide

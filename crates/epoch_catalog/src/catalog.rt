@@ -7,6 +7,7 @@ ghost use Rattle.epochs.specs.Values.{user_line};
 ghost use Rattle.epochs.specs.Views.{values_of_line};
 ghost use Rattle.epoch_rules.specs.Catalog.{IsCatalog, is_user};
 ghost use Rattle.epoch_catalog.specs.Families.{is_in};
+ghost use Rattle.epoch_catalog.specs.Wide.{wide_places, wide_in, StandAt};
 ghost use Rattle.epoch_rules.specs.Indexes.{IsCatalogIndex};
 ghost use Rattle.epoch_rules.specs.Kept.{AreKept, IsCheckFault, RefusesLines};
 ghost use Rattle.epoch_rules.specs.LiveLines.{live_lines};
@@ -14,6 +15,7 @@ ghost use Rattle.epoch_rules.specs.LiveLines.{live_lines};
 use crate::families::{Family, family_in};
 use crate::merging::merge;
 use crate::users::user_in;
+use crate::wide::{note_wide, wide_of};
 use epoch_rules::{CheckFault, Index, check_lines};
 use epochs::{Line, User};
 use exact_time::{Many, OutOfMemory};
@@ -25,6 +27,8 @@ use std::marker::Model;
 #[derive(Debug, Drop)]
 pub struct Catalog {
     lines: Vec<Line>,
+    // The places of the wide lines, ascending.
+    wide: Vec<usize>,
     index: Index,
 }
 
@@ -33,7 +37,7 @@ impl Model for Catalog {
 
     ghost view = { λ c. map values_of_line c.lines.items };
 
-    ghost invariant = { λ c. IsCatalog (map values_of_line c.lines.items) × IsCatalogIndex c.index (map values_of_line c.lines.items) };
+    ghost invariant = { λ c. IsCatalog (map values_of_line c.lines.items) × (c.wide.items ≡ wide_places (map values_of_line c.lines.items)) × IsCatalogIndex c.index (map values_of_line c.lines.items) };
 }
 
 impl Catalog {
@@ -43,6 +47,7 @@ impl Catalog {
     {
         Catalog {
             lines: Vec::new(alloc),
+            wide: Vec::new(alloc),
             index: Index::new(alloc),
         }
     }
@@ -63,10 +68,18 @@ impl Catalog {
     }
 
     /// The lines of a family, in order, found by halves.
-    pub fn family(&self, family: &Family) -> &[Line]
+    pub fn family(&self, family: &Family<'_>) -> &[Line]
         ensures { map values_of_line result.now ≡ filter (is_in family.now) self.now }
     {
         family_in(self.lines.as_slice(), family)
+    }
+
+    /// The places among [`Catalog::lines`] of the restrictions and grants of a family whose network isn't
+    /// written as one code, as those with a wildcard; ascending, found by halves.
+    pub fn wide(&self, family: &Family<'_>) -> &[usize]
+        ensures { StandAt self.now result.now (wide_in family.now self.now) }
+    {
+        wide_of(self.lines.as_slice(), self.wide.as_slice(), family)
     }
 
     /// Whether lines keep the rules, each over the live lines with the lines before it: else the first line
@@ -95,7 +108,10 @@ impl Catalog {
         let index = self
             .index
             .after(alloc, self.lines.as_slice(), lines.as_slice())?;
+        let mut wide = Vec::with_capacity(alloc, self.lines.len() + lines.len())?;
         merge(&mut self.lines, lines.as_slice())?;
+        note_wide(&mut wide, self.lines.as_slice());
+        self.wide = wide;
         self.index = index;
         Ok(())
     }

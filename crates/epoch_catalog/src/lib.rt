@@ -6,8 +6,9 @@
 //! that breaks one, and the first rule that it breaks (`IsFirstBroken`; both in `specs/Kept.antt` of the crate
 //! `epoch_rules`). [`Catalog::apply`] takes in lines that keep the rules; afterwards the catalog holds the
 //! live lines of all lines (`live_lines` of that crate), and where memory is missing, what it held before.
-//! [`Catalog::lines`] hands out all lines, [`Catalog::family`] those of a [`Family`], and [`Catalog::user`]
-//! the user of a name; the last two search by halves. A catalog is seen as the list of its lines, without
+//! [`Catalog::lines`] hands out all lines, [`Catalog::family`] those of a [`Family`], [`Catalog::wide`] the
+//! places of those of them that are wide (`specs/Wide.antt`), and [`Catalog::user`] the user of a name; the
+//! last three search by halves. A catalog is seen as the list of its lines, without
 //! memory (`specs/Views.antt` of the crate `epochs`), and its type keeps `IsCatalog`. Beside the lines it keeps
 //! what the rules need of them all (`Index` of the crate `epoch_rules`), so that n lines over N live ones cost
 //! about N + n log N.
@@ -20,7 +21,7 @@
 //! to the first, puts these in the order of their keys, copies them (`src/copying.rt`) and takes room for all
 //! lines. Only then it changes the live lines, in one walk from the greatest key to the least: the live lines
 //! of greater keys are moved, that of the same key is dropped, and the new line follows unless it is a
-//! deletion. `src/families.rt` and `src/users.rt` have the searches.
+//! deletion. `src/families.rt`, `src/wide.rt` and `src/users.rt` have the searches.
 #![tactic(auto)]
 
 mod catalog;
@@ -31,6 +32,7 @@ mod merging;
 #[cfg(test)]
 mod tests;
 mod users;
+mod wide;
 
 pub use catalog::Catalog;
 pub use families::Family;

@@ -1,5 +1,5 @@
 //! Live lines and new ones, merged.
-ghost use Rattle.std.specs.Prelude.{◌≡◌, ◌++◌, [], ◌∷◌, ◌+◌, ◌≤◌, ◌<◌, ◌||◌, false, map, reverse, OnOk, OnErr, IfOk, vec_len, vec_capacity, if◌then◌else◌};
+ghost use Rattle.std.specs.Prelude.{◌≡◌, ◌++◌, [], ◌∷◌, ◌+◌, ◌≤◌, ◌<◌, ◌||◌, false, map, reverse, OnOk, OnErr, IfOk, length, vec_len, vec_capacity, if◌then◌else◌};
 ghost use Rattle.std.specs.List.{IsDistinct};
 ghost use Rattle.std.specs.List.Sorted.{IsPermutation, IsStrictlySortedBy};
 ghost use Rattle.std.specs.Ordering.{eq_by_cmp, is_gt};
@@ -149,6 +149,7 @@ fn put_behind(lines: &mut Vec<Line>, more: &mut Vec<Line>)
 pub fn merge(live: &mut Vec<Line>, lines: &[Line]) -> Result<(), OutOfMemory>
     requires { IsCatalog (map values_of_line live.old.items) }
     ensures ok { OnOk result (map values_of_line live.new.items ≡ live_lines (map values_of_line live.old.items ++ map values_of_line lines.now)) }
+    ensures few { OnOk result (length live.new.items ≤ length live.old.items + length lines.now) }
     ensures err { OnErr result (live.new.items ≡ live.old.items) }
 {
     let alloc = *live.allocator();

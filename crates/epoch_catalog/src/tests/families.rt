@@ -79,3 +79,29 @@ fn finds_users_and_families(rt: HostRuntime) -> Result<(), Failure> {
     );
     Ok(())
 }
+
+// Restrictions and grants by their network, and those that are written with patterns apart.
+#[test]
+fn hands_out_restrictions_and_grants_by_network(rt: HostRuntime) -> Result<(), Failure> {
+    let alloc = rt.alloc();
+    let mut catalog = Catalog::new(alloc);
+    take(alloc, &mut catalog, ARCHIVE)?;
+    take(
+        alloc,
+        &mut catalog,
+        "USR|ada|939e7578ed9e3c518a452acee763bce9|reader\nRST|IU|*|*|*|2024-01-01|\nRST|IU|ANMO|*|*|2024-01-01|\nRST|I?|*|*|*|2024-01-01|\nRST|II,IU|*|*|*|2024-01-01|\nRST|US|*|*|*|2024-01-01|\nGRT|ada|IU|*|*|*|2024-01-01|\nGRT|ada|*|*|*|*|2024-01-01|\nGRT|op|IU|*|*|*|2024-01-01|\n",
+    )?;
+    let Some(network) = Code::of(b"IU") else {
+        return Ok(());
+    };
+    assert_eq!(&rt; catalog.family(&Family::Restrictions).len(), 5);
+    assert_eq!(&rt; catalog.family(&Family::RestrictionsOn(network)).len(), 2);
+    assert_eq!(&rt; catalog.wide(&Family::Restrictions).len(), 2);
+    assert_eq!(&rt; catalog.family(&Family::GrantsOf(b"ada")).len(), 2);
+    assert_eq!(&rt; catalog.family(&Family::GrantsOn(b"ada", network)).len(), 1);
+    assert_eq!(&rt; catalog.wide(&Family::GrantsOf(b"ada")).len(), 1);
+    assert_eq!(&rt; catalog.wide(&Family::GrantsOf(b"op")).len(), 0);
+    take(alloc, &mut catalog, "DEL|RST|I?|*|*|*|2024-01-01\n")?;
+    assert_eq!(&rt; catalog.wide(&Family::Restrictions).len(), 1);
+    Ok(())
+}

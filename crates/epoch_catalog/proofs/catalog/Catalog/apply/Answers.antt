@@ -6,6 +6,7 @@ use Rattle.epoch_rules.specs.Indexes.{IsCatalogIndex}
 use Rattle.epoch_rules.specs.Kept.{AreKept}
 use Rattle.epoch_rules.specs.LiveLines.{live_lines}
 use Rattle.epoch_rules.proofs.KeptCatalog.{kept_lines}
+use Rattle.epoch_catalog.specs.Wide.{wide_places}
 use Rattle.epoch_catalog.proofs.catalog.Catalog.apply.Goals as goal
 
 pub invariant_of-self-2 : goal.invariant_of-self-2
@@ -16,4 +17,4 @@ invariant_of-self-2 c =
     let kept : AreKept live lines = subst (λ l. AreKept l lines) (sym c.self.view_is) c.requires in
     let new : map values_of_line c.merge.new.live.items ≡ live_lines (live ++ lines) = c.in_ok-merge.ensures.ok ∙ ap (λ ls. live_lines (live ++ map values_of_line ls)) c.as_slice-3.ensures in
     let indexed : IsCatalogIndex index (live_lines (live ++ lines)) = subst (IsCatalogIndex index) (λ i. live_lines (map values_of_line (c.as_slice.ensures.value i) ++ map values_of_line (c.as_slice-2.ensures i))) c.in_ok-index.ensures in
-    (subst IsCatalog (sym new) (kept_lines live lines c.self.invariant.0 kept), subst (IsCatalogIndex index) (sym new) indexed)
+    (subst IsCatalog (sym new) (kept_lines live lines c.self.invariant.0 kept), c.note_wide.ensures ∙ ap (λ ls. wide_places (map values_of_line ls)) c.as_slice-4.ensures.value, subst (IsCatalogIndex index) (sym new) indexed)

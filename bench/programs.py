@@ -1,0 +1,37 @@
+"""Builds a program of this folder in a copy of the crates that it stands on, since it is no part of the repository's own."""
+import os
+import shutil
+import subprocess
+import sys
+
+HERE = os.path.dirname(os.path.abspath(__file__))
+TOP = os.path.dirname(HERE)
+
+
+def below(names):
+    """The crates of these names and all below them, with their lines of crates.txt in its order."""
+    with open(os.path.join(TOP, "crates.txt"), encoding="utf-8") as given:
+        lines = {line.split(":")[0]: line for line in given}
+    wanted = set(names)
+    for name in reversed(lines):
+        if name in wanted:
+            wanted.update(word for word in lines[name].split(":")[1].split() if word in lines)
+    return [(name, line) for name, line in lines.items() if name in wanted]
+
+
+def built(scratch, name, source, crates, words):
+    """The program of that source over these crates, proved and built; it is run once, with these words."""
+    stands_on = below(crates)
+    for crate, _ in stands_on:
+        shutil.copytree(os.path.join(TOP, "crates", crate), os.path.join(scratch, "crates", crate))
+    folder = os.path.join(scratch, "crates", name)
+    os.makedirs(os.path.join(folder, "src"))
+    shutil.copy(os.path.join(HERE, source), os.path.join(folder, "src", "main.rt"))
+    shutil.copy(os.path.join(TOP, "HANDLES"), scratch)
+    with open(os.path.join(scratch, "crates.txt"), "w", encoding="utf-8") as wanted:
+        wanted.writelines([line for _, line in stands_on] + [f"{name}: {' '.join(crates)}\n"])
+    made = subprocess.run(["rt", "run", "--", *words], cwd=folder, stdout=subprocess.PIPE, stderr=subprocess.STDOUT)
+    program = os.path.join(folder, "out", name)
+    if not os.path.exists(program):
+        sys.exit(made.stdout.decode())
+    return program

@@ -1,0 +1,7 @@
+pub mod Challenge
+pub mod Credentials
+pub mod Items
+pub mod Law
+pub mod Nonces
+pub mod Parts
+pub mod Responses

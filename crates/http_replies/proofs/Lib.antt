@@ -1,0 +1,6 @@
+mod Examples
+mod InTwo
+mod Joins
+mod PlainBytes
+mod ReadBack
+mod StatusFacts
