@@ -58,8 +58,6 @@ fn is_fresh(secret: &Secret, nonce: &[u8], now: Moment) -> bool
 fn ha1_of<'a>(catalog: &'a Catalog, name: &[u8]) -> Option<&'a [u8; 32]>
     ensures { option_map (λ ha1. ha1.now) result ≡ ha1_of catalog.now name.now }
 {
-    // Its contract says that these are a catalog's lines, in which a user has one.
-    let _lines = catalog.lines();
     match catalog.user(name) {
         Some(user) => Some(&user.ha1),
         None => None,

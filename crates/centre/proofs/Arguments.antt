@@ -9,7 +9,7 @@ use Rattle.std.proofs.lemmas.Bool.{and_from, and_left, and_right}
 use Rattle.std.proofs.lemmas.List.{take_rest, get_or-map, take-map, drop-map}
 use Rattle.std.proofs.lemmas.List.Folds.{list_all-map}
 use Rattle.std.proofs.lemmas.Slice.Eq.{bytes_eq-Decides}
-use Rattle.query_words.specs.Gets.{text_or}
+use Rattle.query_parameters.specs.Gets.{text_or}
 use Rattle.centre.specs.Commands.{Text, SelectWords, is_position, is_option, are_options, value_of, limit_of, words_with, select_words_of}
 
 abbrev texts : List (String Global) → List Text

@@ -13,8 +13,8 @@ use Rattle.dataselect.specs.declared.query.Selection.{Selection}
 use Rattle.centre.specs.declared.ending.Refusal.{Refusal}
 use Rattle.centre.specs.declared.ending.Refusal.TheVariants.{UnknownCommand, Value, Order, Record, NoData, TooLarge, InputTooLong}
 use Rattle.centre.specs.Commands.{SelectWords}
-use Rattle.query_words.specs.Values.{quality_of, flag_of}
-use Rattle.query_words.proofs.Minimums.{one_minimum}
+use Rattle.query_parameters.specs.Values.{quality_of, flag_of}
+use Rattle.query_parameters.proofs.Minimums.{one_minimum}
 use Rattle.centre.specs.Words.{CanReadWord, CanReadWords, time_words, option_words, tested_words, IsNamed, IsSelectWindow, AreSelectOptions, IsSelectQuery, HasTimesTurned, RefusesSelectWords}
 
 one_time : (text : List ℕ) (a b : Moment) → IsMoment text a.micros → IsMoment text b.micros → a ≡ b

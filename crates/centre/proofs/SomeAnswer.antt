@@ -1,6 +1,6 @@
 -- The words and the input have an answer.
 use Rattle.std.proofs.Common.{◌≡◌, ◌≢◌, ◌⊎◌, inl, inr, ℕ, ◌≤◌, ℤ, pos, negsuc, List, [], ◌∷◌, length, Option, None, Some, Result, Ok, Err, refl, ap, arith}
-use Rattle.std.specs.Prelude.{◌≤ℤ◌, ◌<ℤ◌, MatchOption}
+use Rattle.std.specs.Prelude.{◌≤ℤ◌, ◌<ℤ◌, MatchResult}
 use Rattle.std.specs.List.{AllByRecursion}
 use Rattle.std.proofs.lemmas.Bool.{cases_lt}
 use Rattle.std.proofs.lemmas.Int.{ints}
@@ -16,12 +16,14 @@ use Rattle.channel_globs.specs.declared.nslc.Part.{Part}
 use Rattle.channel_globs.specs.declared.nslc.Part.TheVariants.{Network, Station, Location, Channel}
 use Rattle.mseed_header.specs.declared.header.RecordFault.{RecordFault}
 use Rattle.mseed_header.specs.declared.row.Row.{Row}
-use Rattle.mseed_header.specs.Records.{AreRecords, HasRecords, IsFirstBad}
+use Rattle.mseed_header.specs.Octets.{AreOctets}
+use Rattle.mseed_header.specs.Records.{AreRecords, HasRecordCount, IsRefusedFirst}
+use Rattle.mseed_header.proofs.OneBatch.{batch_or_fault}
 use Rattle.dataselect.specs.declared.query.DataQuery.{DataQuery}
 use Rattle.dataselect.specs.declared.query.Selection.{Selection}
 use Rattle.dataselect.specs.declared.query.Nodata.TheVariants.{Quiet}
-use Rattle.query_words.specs.Values.{quality_of, flag_of}
-use Rattle.query_words.proofs.ValuesFound.{Found, moment_found, list_found}
+use Rattle.query_parameters.specs.Values.{quality_of, flag_of}
+use Rattle.query_parameters.proofs.ValuesFound.{Found, moment_found, list_found}
 use Rattle.centre.specs.declared.ending.Word.{Word}
 use Rattle.centre.specs.declared.ending.Word.TheVariants as word
 use Rattle.centre.specs.declared.ending.Refusal.{Refusal}
@@ -126,20 +128,23 @@ by_rows w query input rows asked within records =
     ]
 
 -- an input is records end to end, or one is refused first
-abbrev pub IsCutUp : List ℕ → Type 0
-IsCutUp input = HasRecords input ⊎ ((at : ℕ) × (fault : RecordFault) × IsFirstBad input at fault)
+abbrev IsCutUp : List ℕ → Type 0
+IsCutUp input = ((count : ℕ) × HasRecordCount input count) ⊎ ((found : ℕ × RecordFault) × IsRefusedFirst input found)
 
-pub cut_up : {F : Type 0} (input : List ℕ) (found : Option F) (at : F → ℕ) (fault : F → RecordFault) → MatchOption found (HasRecords input) (λ f. IsFirstBad input (at f) (fault f)) → IsCutUp input
-cut_up input None at fault records = inl records
-cut_up input (Some f) at fault bad = inr (at f, fault f, bad)
+cut_up : (input : List ℕ) → AreOctets input → IsCutUp input
+cut_up input octets = let batch = batch_or_fault input octets in by batch.0 (batch.1.right)
+  where
+    by : (answer : Result ℕ (ℕ × RecordFault)) → MatchResult answer (HasRecordCount input) (IsRefusedFirst input) → IsCutUp input
+    by (Ok count) records = inl (count, records)
+    by (Err found) bad = inr (found, bad)
 
 by_input : (w : SelectWords) (query : DataQuery) (input : List ℕ) → IsSelectQuery w query → IsCutUp input → SomeSelectAnswer w input
 by_input w query input asked cut =
     elim (cases_lt most_input (length input)) [
       | inl long ↦ (Err InputTooLong, inr (query, asked, long))
       | inr within ↦ elim cut [
-        | inl records ↦ let rows = records 0 epoch (omega (arith, ints)) (omega (arith, ints)) in by_rows w query input rows.0 asked within rows.1
-        | inr bad ↦ (Err (Record bad.0 bad.1), inr (query, asked, record { within = within; first = bad.2 }))
+        | inl records ↦ let rows = records.1 0 epoch (omega (arith, ints)) (omega (arith, ints)) in by_rows w query input rows.0 asked within rows.1
+        | inr bad ↦ (Err (Record bad.0.0 bad.0.1), inr (query, asked, record { within = within; first = bad.1 }))
       ]
     ]
 
@@ -180,7 +185,7 @@ some_select w input cut =
       | inr first ↦ (Err (Value first.0), inl first.1)
     ]
 
-pub some_answer : (command : Option Command) (input : List ℕ) → IsCutUp input → (answer : Result (List ℕ) Refusal) × IsAnswer command input answer
-some_answer None input cut = (Err UnknownCommand, refl)
-some_answer (Some (show shown)) input cut = (Ok (text_shown shown), refl)
-some_answer (Some (select w)) input cut = some_select w input cut
+pub some_answer : (command : Option Command) (input : List ℕ) → AreOctets input → (answer : Result (List ℕ) Refusal) × IsAnswer command input answer
+some_answer None input octets = (Err UnknownCommand, refl)
+some_answer (Some (show shown)) input octets = (Ok (text_shown shown), refl)
+some_answer (Some (select w)) input octets = some_select w input (cut_up input octets)

@@ -3,8 +3,8 @@ use Rattle.std.specs.Prelude.{◌==◌, ◌&&◌, ◌||◌, ℕ, Bool, true, fal
 use Rattle.std.specs.List.{list_all}
 use Rattle.std.specs.Option.{option_map, is_some}
 use Rattle.std.specs.Str.{bytes_eq}
-use Rattle.query_words.specs.Gets.{text_or}
-use Rattle.query_words.specs.Values.{whole_of}
+use Rattle.query_parameters.specs.Gets.{text_or}
+use Rattle.query_parameters.specs.Values.{whole_of}
 use Rattle.centre.specs.declared.help.Shown.{Shown}
 use Rattle.centre.specs.declared.help.Shown.TheVariants.{Help, Version, SelectHelp}
 use Rattle.centre.specs.Limits.{most_bytes}

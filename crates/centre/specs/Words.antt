@@ -11,7 +11,7 @@ use Rattle.mseed_header.specs.declared.quality.Quality.{Quality}
 use Rattle.dataselect.specs.declared.query.DataQuery.{DataQuery}
 use Rattle.dataselect.specs.declared.query.Selection.{Selection}
 use Rattle.dataselect.specs.declared.query.Nodata.TheVariants.{Quiet}
-use Rattle.query_words.specs.Values.{quality_of, flag_of, IsMinimum}
+use Rattle.query_parameters.specs.Values.{quality_of, flag_of, IsMinimum}
 use Rattle.channel_globs.specs.declared.patterns.GlobFault.{GlobFault}
 use Rattle.channel_globs.specs.declared.patterns.GlobFault.TheVariants.{TooMany, Character, Length, OutOfMemory as NoMemory}
 use Rattle.centre.specs.declared.ending.Word.{Word}

@@ -2,13 +2,13 @@
 ghost use Rattle.std.specs.Prelude.{◌≡◌, ◌↔◌, map, string_bytes, codes, IsTrue};
 ghost use Rattle.std.specs.List.{list_all};
 ghost use Rattle.std.specs.Option.{option_map};
-ghost use Rattle.query_words.specs.Gets.{text_or};
+ghost use Rattle.query_parameters.specs.Gets.{text_or};
 ghost use Rattle.centre.specs.Commands.{is_position, is_option, are_options, value_of, limit_of, select_words_of, lone_command_of, shown_of, command_of};
 ghost use Rattle.centre.specs.Arguments.{words_at, command_at};
 
 use crate::MAX_BYTES;
 use crate::help::Shown;
-use query_words::read_whole;
+use query_parameters::read_whole;
 
 /// The words of `select` behind its name: its positions, and what its options say.
 #[derive(Clone, Copy)]

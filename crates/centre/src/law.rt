@@ -1,11 +1,10 @@
 //! What the definitions say together.
 ghost use Rattle.std.specs.Prelude.{◌≡◌, ◌↔◌, ℕ, IsTrue, List, Option, Some, Result, Contains, IsPermutation};
+ghost use Rattle.mseed_header.specs.Octets.{AreOctets};
 ghost use Rattle.centre.specs.Answers.{IsAnswer};
 ghost use Rattle.centre.specs.Commands.{Text, Command, are_options, value_of};
 ghost use Rattle.centre.specs.OptionsLaw.{NamedValue, named_value, words_of_options, AreOptionsApart, AreWordsOfOptions};
 ghost use Rattle.centre.specs.declared.ending.Refusal.{Refusal};
-
-use mseed_header::first_refused;
 
 /// The words and the input determine one answer at most: no two causes hold at once, and no words and
 /// input have two bodies.
@@ -14,13 +13,10 @@ pub fn one_answer_at_most()
         → IsAnswer command input a → IsAnswer command input b → a ≡ b }
 {}
 
-/// And there is one: each command has an answer to each input of bytes, and by the law above no other. The
-/// first record that is refused is looked for without memory, so every input is records end to end or has one.
-pub fn some_answer(input: &[u8])
-    ensures { (command : Option Command) → (answer : Result (List ℕ) Refusal) × IsAnswer command input.now answer }
-{
-    first_refused(input);
-}
+/// And there is one: each command has an answer to each input of bytes, and by the law above no other.
+pub fn some_answer()
+    ensures { (command : Option Command) (input : List ℕ) → AreOctets input → (answer : Result (List ℕ) Refusal) × IsAnswer command input answer }
+{}
 
 /// Options are names with values, each name once at most, in any order: words are options exactly if they
 /// are pairs of a name and a value end to end, where each name is one of the four and none is given twice;

@@ -2,7 +2,7 @@
 ghost use Rattle.std.specs.Prelude.{◌≡◌, ◌++◌, [], ◌∷◌, Some, IfOk, IfErr};
 ghost use Rattle.exact_time.specs.MomentText.{IsMoment};
 ghost use Rattle.channel_globs.specs.PatternText.{IsPatternList};
-ghost use Rattle.query_words.specs.Values.{quality_of, flag_of, IsMinimum};
+ghost use Rattle.query_parameters.specs.Values.{quality_of, flag_of, IsMinimum};
 ghost use Rattle.centre.specs.Arguments.{words_at};
 ghost use Rattle.centre.specs.Words.{stop_for, code_words, time_words, CanReadWords, IsList, IsTime, IsQuality, IsLength, IsFlag, IsNamed, AreSelectOptions, IsSelectQuery, RefusesSelectWords, StopsWith};
 
@@ -12,7 +12,7 @@ use channel_globs::{GlobFault, Part, PatternList};
 use dataselect::{DataQuery, Nodata, Selection};
 use exact_time::{Many, Moment};
 use mseed_header::Quality;
-use query_words::{read_flag, read_minimum, read_quality};
+use query_parameters::{read_flag, read_minimum, read_quality};
 use std::alloc::Global;
 
 // How a fault of a code word stops the run.

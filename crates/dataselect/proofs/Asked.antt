@@ -24,13 +24,13 @@ holds_decides : {T : Type 0} (test : T → Bool) (P : T → Type 0) → ((x : T)
 holds_decides test P each None = (λ h. tt, λ h. refl)
 holds_decides test P each (Some x) = each x
 
-any_as : {X : Type 0} (test : X → Bool) (P : X → Type 0) → ((x : X) → IsTrue (test x) ↔ P x) → (xs : List X) → IsTrue (list_any test xs) ↔ Any P xs
+pub any_as : {X : Type 0} (test : X → Bool) (P : X → Type 0) → ((x : X) → IsTrue (test x) ↔ P x) → (xs : List X) → IsTrue (list_any test xs) ↔ Any P xs
 any_as test P each xs = (
   λ h. let found = Any-from_list_any test xs h in (found.0, found.1, found.2, found.3, (each found.1).0 found.4),
   λ h. list_any-from_Any test xs (h.0, h.1, h.2, h.3, (each h.1).1 h.4),
 )
 
-named_decides : (s : Selection) (name : Nslc) → IsTrue (is_named s name) ↔ IsNamedBy s name
+pub named_decides : (s : Selection) (name : Nslc) → IsTrue (is_named s name) ↔ IsNamedBy s name
 named_decides s name =
     let n = is_match_any s.network name.network in
     let t = is_match_any s.station name.station in

@@ -1,5 +1,5 @@
 -- Worked examples of the definitions.
-use Rattle.std.proofs.Common.{◌≡◌, ◌+◌, ◌==◌, not, ℕ, true, false, refl, codes, [], ◌∷◌, pos, None, Err, arith}
+use Rattle.std.proofs.Common.{◌≡◌, ◌+◌, ◌==◌, not, ℕ, List, true, false, refl, codes, [], ◌∷◌, pos, None, Err, arith}
 use Rattle.std.specs.Prelude.{nat_lt}
 use Rattle.std.proofs.Math.Nat.{one-dvd}
 use Rattle.std.specs.declared.cmp.Ordering.TheVariants.{Less, Greater}
@@ -20,7 +20,11 @@ use Rattle.dataselect.specs.Picked.{picked_places}
 use Rattle.dataselect.specs.PickedLaw.{ArePicked}
 use Rattle.dataselect.specs.Runs.{runs_by}
 use Rattle.dataselect.specs.Segments.{is_break, length_between, lasts, exceeds, segment_length, segments_of, have_one_name}
-use Rattle.dataselect.specs.Rows.{held_rows, with_row}
+use Rattle.dataselect.specs.HeldNames.{names_of}
+use Rattle.dataselect.specs.MergedSpans.{by_quality_and_rate, at_cmp, next_at, span_at, merged_spans_of}
+use Rattle.dataselect.specs.Spans.{Merging, span_runs}
+use Rattle.list_laws.specs.Greater.{greater}
+use Rattle.dataselect.specs.Rows.{held_rows, with_row, with_rows}
 use Rattle.dataselect.specs.declared.answers.DataRefusal.TheVariants.{Empty, TooLarge}
 use Rattle.dataselect.specs.declared.query.DataQuery.{DataQuery}
 use Rattle.dataselect.specs.declared.query.Nodata.TheVariants.{Quiet}
@@ -186,3 +190,85 @@ none_so_long = refl
 the_picked : ArePicked (record all_of_it { longest = true }) (anmo_row ∷ anmo_row ∷ []) (0 ∷ 1 ∷ []) (0 ∷ [])
 unfolding is_break segment_length have_one_name
 the_picked = are_picked (record all_of_it { longest = true }) (anmo_row ∷ anmo_row ∷ []) (0 ∷ 1 ∷ [])
+
+-- one sample in a second
+abbrev one_hertz : Ratio
+one_hertz = record {
+  num = 1;
+  den = 1;
+  num_in = omega arith;
+  den_in = omega arith;
+  above = omega arith;
+  lowest = (one-dvd 1, one-dvd 1, λ d p q. p);
+}
+
+-- so many samples, from so many microseconds after midnight
+abbrev seconds : ℕ → ℕ → Header
+seconds samples micros = record (starting (1_706_745_600_000_000 + micros)) { samples = samples; rate = one_hertz }
+
+-- an hour, ten seconds within it, and ten seconds that follow the hour
+abbrev hour : Header
+hour = seconds 3600 0
+
+abbrev inner : Header
+inner = seconds 10 600_000_000
+
+abbrev following : Header
+following = seconds 10 3_600_000_000
+
+abbrev runs_by_way : Merging → List Header → List (List Header)
+runs_by_way m hs = span_runs m (λ h. h) hs
+
+-- what follows the hour joins it, also behind the ten seconds within it
+merged : runs_by_way by_quality_and_rate (hour ∷ inner ∷ following ∷ []) ≡ (hour ∷ inner ∷ following ∷ []) ∷ []
+merged = refl
+
+-- where overlaps aren't merged, the row before alone counts
+unmerged : runs_by_way (record by_quality_and_rate { overlap = false }) (hour ∷ inner ∷ following ∷ []) ≡ (hour ∷ []) ∷ (inner ∷ []) ∷ (following ∷ []) ∷ []
+unmerged = refl
+
+-- half a period is half a second
+half_late : runs_by_way by_quality_and_rate (hour ∷ seconds 10 3_600_500_000 ∷ []) ≡ (hour ∷ seconds 10 3_600_500_000 ∷ []) ∷ []
+half_late = refl
+
+later_still : runs_by_way by_quality_and_rate (hour ∷ seconds 10 3_600_500_001 ∷ []) ≡ (hour ∷ []) ∷ (seconds 10 3_600_500_001 ∷ []) ∷ []
+later_still = refl
+
+-- a gap of a second is allowed
+gap_allowed : runs_by_way (record by_quality_and_rate { gap = 1_000_000 }) (hour ∷ seconds 10 3_601_000_000 ∷ []) ≡ (hour ∷ seconds 10 3_601_000_000 ∷ []) ∷ []
+gap_allowed = refl
+
+-- rows of two rates, and of two qualities, join where these are merged
+abbrev at_rate_0 : Header
+at_rate_0 = record (seconds 0 600_000_000) { rate = no_rate }
+
+two_rates : runs_by_way by_quality_and_rate (hour ∷ at_rate_0 ∷ following ∷ []) ≡ (hour ∷ []) ∷ (at_rate_0 ∷ []) ∷ (following ∷ []) ∷ []
+two_rates = refl
+
+rates_merged : runs_by_way (record by_quality_and_rate { rate = true }) (hour ∷ at_rate_0 ∷ following ∷ []) ≡ (hour ∷ at_rate_0 ∷ following ∷ []) ∷ []
+rates_merged = refl
+
+qualities_merged : runs_by_way (record by_quality_and_rate { quality = true }) (hour ∷ record inner { quality = M } ∷ []) ≡ (hour ∷ record inner { quality = M } ∷ []) ∷ []
+qualities_merged = refl
+
+-- of two equal times the one with more samples is the greater
+same_time : greater at_cmp (next_at (seconds 10 600_000_000)) (next_at (seconds 9 601_000_000)) ≡ next_at (seconds 10 600_000_000)
+same_time = refl
+
+later_time : greater at_cmp (next_at (seconds 10 600_000_000)) (next_at (seconds 10 601_000_000)) ≡ next_at (seconds 10 601_000_000)
+later_time = refl
+
+-- the one span of a record
+one_span : merged_spans_of anmo (anmo_row ∷ []) ≡ span_at anmo_row ∷ []
+one_span = refl
+
+no_span : merged_spans_of blank_anmo (anmo_row ∷ []) ≡ []
+no_span = refl
+
+-- the names that are held
+one_name : names_of broadband (anmo_row ∷ anmo_row ∷ []) ≡ anmo ∷ []
+one_name = refl
+
+-- rows put in together, one of them twice
+together : with_rows [] (anmo_row ∷ anmo_row ∷ []) ≡ anmo_row ∷ []
+together = refl

@@ -4,7 +4,7 @@ use Rattle.std.specs.Str.{bytes_eq}
 use Rattle.std.proofs.lemmas.List.Folds.{list_any-append}
 use Rattle.std.proofs.lemmas.Slice.Eq.{bytes_eq-Decides}
 use Rattle.mseed_header.specs.declared.row.Row.{Row}
-use Rattle.dataselect.specs.Rows.{has_image, with_row, new_after, held_rows}
+use Rattle.dataselect.specs.Rows.{has_image, with_row, with_rows, new_after, held_rows}
 
 -- what comes after is told apart by all that came before
 after-append : (before xs ys : List Row) → new_after before (xs ++ ys) ≡ new_after before xs ++ new_after (before ++ xs) ys
@@ -66,3 +66,15 @@ length_if rows row false = omega (arith, length-append rows (row ∷ []))
 
 pub length_with : (rows : List Row) (row : Row) → length (with_row rows row) ≤ length rows + 1
 length_with rows row = length_if rows row (has_image row.image rows)
+
+pub length_all : (rows more : List Row) → length (with_rows rows more) ≤ length rows + length more
+length_all rows [] = omega arith
+length_all rows (row ∷ more) = omega (arith, length_all (with_row rows row) more, length_with rows row)
+
+-- some rows more
+pub held_all : (rows more : List Row) → with_rows (held_rows rows) more ≡ held_rows (rows ++ more)
+held_all rows [] = ap held_rows (sym (append-nil rows))
+held_all rows (row ∷ more) =
+    ap (λ held. with_rows held more) (sym (held_more rows row))
+    ∙ held_all (rows ++ row ∷ []) more
+    ∙ ap held_rows (append_assoc rows (row ∷ []) more)

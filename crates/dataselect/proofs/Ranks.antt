@@ -22,7 +22,7 @@ ranks_total =
     (then_total (on_total (λ (r : Rank). r.entry) nat_cmp_total)
     (then_total (on_total (λ (r : Rank). r.place) nat_cmp_total) (on_total (λ (r : Rank). r.index) nat_cmp_total)))))
 
-exact_moments : CmpEqualImpliesEq (λ (a b : Moment). int_cmp a.micros b.micros)
+pub exact_moments : CmpEqualImpliesEq (λ (a b : Moment). int_cmp a.micros b.micros)
 exact_moments a b h = ap (λ (z : ℤ). record { micros = z }) (exact_signed a.micros b.micros h)
 
 pub exact_ranks : CmpEqualImpliesEq rank_cmp

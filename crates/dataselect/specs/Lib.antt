@@ -1,7 +1,9 @@
 pub mod Chosen
 pub mod DataBody
+pub mod HeldNames
 pub mod Law
 pub mod Longest
+pub mod MergedSpans
 pub mod Order
 pub mod Picked
 pub mod PickedLaw
@@ -9,3 +11,6 @@ pub mod Query
 pub mod Rows
 pub mod Runs
 pub mod Segments
+pub mod SpanLaw
+pub mod SpanOrder
+pub mod Spans

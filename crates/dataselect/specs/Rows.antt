@@ -1,6 +1,6 @@
 -- Rows without doubles.
 use Rattle.std.specs.Prelude.{ℕ, Bool, List, [], ◌∷◌, ◌++◌, if◌then◌else◌}
-use Rattle.std.specs.List.{list_any}
+use Rattle.std.specs.List.{list_any, fold}
 use Rattle.std.specs.Str.{bytes_eq}
 use Rattle.mseed_header.specs.declared.row.Row.{Row}
 use Rattle.dataselect.specs.declared.shelf.Inserted.{Inserted}
@@ -16,6 +16,10 @@ inserted_as rows row = if has_image row.image rows then Duplicate else New
 -- the rows, and the row at their end unless its bytes are there
 abbrev pub with_row : List Row → Row → List Row
 with_row rows row = if has_image row.image rows then rows else rows ++ row ∷ []
+
+-- the rows, and then each of some others in turn unless its bytes are there
+abbrev pub with_rows : List Row → List Row → List Row
+with_rows rows more = fold with_row rows more
 
 -- of the rows that come after `before`, those whose bytes no earlier row has
 abbrev pub new_after : List Row → List Row → List Row

@@ -1,13 +1,22 @@
 //! The plain shelf: a list, walked for each question.
-ghost use Rattle.std.specs.Prelude.{◌≡◌, ℕ, ◌^◌, ◌≤◌, List, [], length, IfOk};
-ghost use Rattle.dataselect.specs.Rows.{has_image};
+ghost use Rattle.std.specs.Prelude.{◌≡◌, ℕ, ◌+◌, ◌^◌, ◌≤◌, List, [], length, IfOk};
+ghost use Rattle.std.specs.Vec.{vec_len, vec_capacity};
+ghost use Rattle.dataselect.specs.Rows.{has_image, with_rows};
 ghost use Rattle.dataselect.specs.Chosen.{passes, ranks_chosen, chosen_places};
+ghost use Rattle.dataselect.specs.HeldNames.{names_of};
+ghost use Rattle.dataselect.specs.SpanOrder.{ranks_named};
 
+use crate::names::list_names;
 use crate::order::{Rank, places_of, rank_of};
 use crate::picked::pick;
-use crate::query::DataQuery;
+use crate::query::{DataQuery, Selection};
+use crate::segments::is_same_name;
 use crate::shelf::{Inserted, Shelf};
 use crate::sight::Sight;
+use crate::span::Span;
+use crate::span_order::{SpanRank, span_rank_of};
+use crate::spans::spans_ranked;
+use channel_globs::Nslc;
 use exact_time::{Many, OutOfMemory};
 use mseed_header::Row;
 use std::alloc::Global;
@@ -38,6 +47,48 @@ fn is_held(rows: &[Row], image: &[u8]) -> bool
     ensures { result ≡ has_image image.now rows.now }
 {
     rows.iter().any(|row| row.image.as_slice() == image)
+}
+
+// Puts each row at the end unless its bytes are there. There is room for all of them.
+fn put_new(rows: &mut Vec<Row>, more: Vec<Row>)
+    requires room { vec_len rows.old + length more.items ≤ vec_capacity rows.old }
+    ensures { rows.new.items ≡ with_rows rows.old.items more.items }
+{
+    'rows: for row in more {
+        if !is_held(rows, row.image.as_slice()) {
+            rows.push_reserved(row);
+        }
+    }
+}
+
+// The names of rows that the selection's codes match.
+fn names_matched(
+    alloc: Global,
+    rows: &[Row],
+    selection: &Selection,
+) -> Result<BTreeSet<Nslc>, OutOfMemory>
+    ensures { IfOk result (λ names. names.keys ≡ names_of selection.now rows.now) }
+{
+    let mut names = BTreeSet::new(alloc);
+    'rows: for row in rows {
+        if selection.names(&row.header.name) {
+            names.insert(row.header.name)?;
+        }
+    }
+    Ok(names)
+}
+
+// The ranks of the rows of a name, in order for their spans.
+fn ranks_named(alloc: Global, rows: &[Row], name: &Nslc) -> Result<BTreeSet<SpanRank>, OutOfMemory>
+    ensures { IfOk result (λ ranks. ranks.keys ≡ ranks_named name.now rows.now) }
+{
+    let mut ranks = BTreeSet::new(alloc);
+    'rows: for (index, row) in rows.iter().enumerate() {
+        if is_same_name(&row.header.name, name) {
+            ranks.insert(span_rank_of(index, row))?;
+        }
+    }
+    Ok(ranks)
 }
 
 /// Whether the row is seen and asked for.
@@ -96,10 +147,28 @@ impl Shelf for PlainShelf {
         Ok(Inserted::New)
     }
 
+    fn insert_all(&mut self, more: Many<Row>) -> Result<(), OutOfMemory> {
+        self.rows.reserve(more.len())?;
+        put_new(&mut self.rows, more.into_vec());
+        Ok(())
+    }
+
     fn choose<V: Sight>(&self, sight: &V, query: &DataQuery) -> Result<Many<usize>, OutOfMemory> {
         let rows = self.rows.as_slice();
         let places = chosen(self.alloc, rows, sight, query)?;
         pick(self.alloc, rows, places.as_slice(), query)
+    }
+
+    fn names(&self, selection: &Selection) -> Result<Many<Nslc>, OutOfMemory> {
+        let names = names_matched(self.alloc, self.rows.as_slice(), selection)?;
+        list_names(self.alloc, &names)
+    }
+
+    fn merged_spans(&self, name: &Nslc) -> Result<Many<Span>, OutOfMemory> {
+        let rows = self.rows.as_slice();
+        let ranks = ranks_named(self.alloc, rows, name)?;
+        let spans = spans_ranked(self.alloc, rows, &ranks)?;
+        Ok(spans)
     }
 
     ghost few = { λ s. s.few };

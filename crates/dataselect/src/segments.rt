@@ -11,8 +11,8 @@ use channel_globs::Nslc;
 use exact_time::{gap_at_most, overlap_at_most};
 use mseed_header::{Header, Row, next};
 
-// Whether two names are the same.
-fn is_same_name(a: &Nslc, b: &Nslc) -> bool
+/// Whether two names are the same.
+pub fn is_same_name(a: &Nslc, b: &Nslc) -> bool
     ensures value { result ≡ is_same_name a.now b.now }
 {
     a == b

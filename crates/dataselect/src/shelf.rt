@@ -1,12 +1,16 @@
 //! What a shelf of rows is, however it is kept.
-ghost use Rattle.std.specs.Prelude.{◌≡◌, ℕ, ◌+◌, ◌^◌, ◌<◌, ◌≤◌, List, length, IfOk, OnOk, OnErr, Some};
+ghost use Rattle.std.specs.Prelude.{◌≡◌, ℕ, ◌+◌, ◌^◌, ◌<◌, ◌≤◌, List, length, map, IfOk, OnOk, OnErr, Some};
 ghost use Rattle.std.specs.List.{slice_get};
 ghost use Rattle.mseed_header.specs.declared.row.Row.{Row};
-ghost use Rattle.dataselect.specs.Rows.{inserted_as, with_row};
+ghost use Rattle.dataselect.specs.HeldNames.{names_of};
+ghost use Rattle.dataselect.specs.MergedSpans.{value_of, merged_spans_of};
 ghost use Rattle.dataselect.specs.Picked.{picked_places};
+ghost use Rattle.dataselect.specs.Rows.{inserted_as, with_row, with_rows};
 
-use crate::query::DataQuery;
+use crate::query::{DataQuery, Selection};
 use crate::sight::Sight;
+use crate::span::Span;
+use channel_globs::Nslc;
 use exact_time::{Many, OutOfMemory};
 use mseed_header::Row;
 
@@ -40,9 +44,26 @@ pub trait Shelf {
         ensures ok { OnOk result (rows self.new ≡ with_row (rows self.old) row) }
         ensures err { OnErr result (rows self.new ≡ rows self.old) };
 
+    /// Puts rows at the end in order, each unless an earlier row has its bytes: all of them, or none where
+    /// memory runs out.
+    fn insert_all(&mut self, more: Many<Row>) -> Result<(), OutOfMemory>
+        requires { length (rows self.old) + length more ≤ 2 ^ 32 }
+        ensures ok { OnOk result (rows self.new ≡ with_rows (rows self.old) more) }
+        ensures err { OnErr result (rows self.new ≡ rows self.old) };
+
     /// The places of the picked rows, in order: the chosen rows of the segments that the query asks for.
     fn choose<V: Sight>(&self, sight: &V, query: &DataQuery) -> Result<Many<usize>, OutOfMemory>
         ensures { IfOk result (λ places. places ≡ picked_places (V.seen sight.now) query.now (rows self.now)) };
+
+    /// The names of rows that the selection's four codes match, ascending, each once. Its window counts for
+    /// nothing.
+    fn names(&self, selection: &Selection) -> Result<Many<Nslc>, OutOfMemory>
+        ensures { IfOk result (λ names. names ≡ names_of selection.now (rows self.now)) };
+
+    /// The spans of all rows of a name, each quality and rate by itself, in order of quality letter, rate and
+    /// start. A row joins where it starts up to half a sample period behind what an earlier one reaches.
+    fn merged_spans(&self, name: &Nslc) -> Result<Many<Span>, OutOfMemory>
+        ensures { IfOk result (λ spans. map value_of spans ≡ merged_spans_of name.now (rows self.now)) };
 
     /// No shelf holds more rows.
     ghost few: { (shelf : Self) → length (rows shelf) ≤ 2 ^ 32 };

@@ -3,7 +3,7 @@ use Rattle.std.specs.Prelude.{Bool, ◌&&◌}
 use Rattle.std.specs.declared.cmp.Ordering.{Ordering}
 use Rattle.std.specs.Ordering.{nat_cmp, ordering_then}
 use Rattle.std.specs.Str.{bytes_eq}
-use Rattle.epochs.specs.declared.kinds.LineKind.TheVariants.{Net, Sta, Cha, Rst, Grt}
+use Rattle.epochs.specs.declared.kinds.LineKind.TheVariants.{Net, Sta, Cha, Evt, Rst, Grt}
 use Rattle.epochs.specs.Lines.{LineValues}
 use Rattle.epoch_catalog.specs.declared.families.Family.{Family}
 use Rattle.epoch_catalog.specs.declared.families.Family.TheVariants as family
@@ -18,6 +18,7 @@ is_in family.Channels e = is_line_of Cha e
 is_in (family.StationsOf network) e = is_line_of Sta e && bytes_eq (key_parts_of e).first network
 is_in (family.ChannelsOf network station) e =
     is_line_of Cha e && bytes_eq (key_parts_of e).first network && bytes_eq (key_parts_of e).second station
+is_in family.Events e = is_line_of Evt e
 is_in family.Restrictions e = is_line_of Rst e
 is_in (family.RestrictionsOn network) e = is_line_of Rst e && bytes_eq (key_parts_of e).first network
 is_in (family.GrantsOf user) e = is_line_of Grt e && bytes_eq (key_parts_of e).first user.now
@@ -32,6 +33,7 @@ family_place family.Channels p = nat_cmp p.rank (rank_of Cha)
 family_place (family.StationsOf network) p = ordering_then (nat_cmp p.rank (rank_of Sta)) (text_cmp p.first network)
 family_place (family.ChannelsOf network station) p =
     ordering_then (nat_cmp p.rank (rank_of Cha)) (ordering_then (text_cmp p.first network) (text_cmp p.second station))
+family_place family.Events p = nat_cmp p.rank (rank_of Evt)
 family_place family.Restrictions p = nat_cmp p.rank (rank_of Rst)
 family_place (family.RestrictionsOn network) p = ordering_then (nat_cmp p.rank (rank_of Rst)) (text_cmp p.first network)
 family_place (family.GrantsOf user) p = ordering_then (nat_cmp p.rank (rank_of Grt)) (text_cmp p.first user.now)

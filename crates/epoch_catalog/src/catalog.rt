@@ -1,7 +1,5 @@
 //! The catalog of live lines.
-ghost use Rattle.std.specs.Prelude.{◌≡◌, false, List, [], ◌++◌, map, filter, OnOk, OnErr, IfOk, IfErr, IsErrOf, ◌⊎◌, MatchOption, Contains};
-ghost use Rattle.std.specs.List.{list_any};
-ghost use Rattle.list_laws.specs.Only.{IsOnly};
+ghost use Rattle.std.specs.Prelude.{◌≡◌, List, [], ◌++◌, map, filter, find, option_map, OnOk, OnErr, IfOk, IfErr, IsErrOf, ◌⊎◌};
 ghost use Rattle.epochs.specs.Lines.{LineValues};
 ghost use Rattle.epochs.specs.Values.{user_line};
 ghost use Rattle.epochs.specs.Views.{values_of_line};
@@ -9,7 +7,7 @@ ghost use Rattle.epoch_rules.specs.Catalog.{IsCatalog, is_user};
 ghost use Rattle.epoch_catalog.specs.Families.{is_in};
 ghost use Rattle.epoch_catalog.specs.Wide.{wide_places, wide_in, StandAt};
 ghost use Rattle.epoch_rules.specs.Indexes.{IsCatalogIndex};
-ghost use Rattle.epoch_rules.specs.Kept.{AreKept, IsCheckFault, RefusesLines};
+ghost use Rattle.epoch_rules.specs.Kept.{AreKept, RefusesLines, check_answer, first_broken};
 ghost use Rattle.epoch_rules.specs.LiveLines.{live_lines};
 
 use crate::families::{Family, family_in};
@@ -60,9 +58,10 @@ impl Catalog {
         self.lines.as_slice()
     }
 
-    /// The user of that name, found by halves.
+    /// The one user of that name, found by halves.
     pub fn user(&self, name: &[u8]) -> Option<&User>
-        ensures { MatchOption result (list_any (is_user name.now) self.now ≡ false) (λ user. (user.now.name ≡ name.now) × Contains self.now (user_line user.now.name user.now.ha1 user.now.roles)) }
+        ensures user { option_map (λ user. user_line user.now.name user.now.ha1 user.now.roles) result ≡ find (is_user name.now) self.now }
+        ensures kept { IsCatalog self.now }
     {
         user_in(self.lines.as_slice(), name)
     }
@@ -85,10 +84,11 @@ impl Catalog {
     /// Whether lines keep the rules, each over the live lines with the lines before it: else the first line
     /// that breaks one, counted from 1, and the first rule that it breaks. Changes nothing.
     pub fn check(&self, lines: &Many<Line>) -> Result<(), CheckFault>
-        ensures kept { IfOk result (λ _. AreKept self.now (map values_of_line lines.now)) }
+        ensures ok { IfOk result (λ _. AreKept self.now (map values_of_line lines.now)) }
         ensures refused { IfErr result (RefusesLines self.now (map values_of_line lines.now)) }
         ensures exact { IsErrOf result CheckFault.OutOfMemory
-            ⊎ IsOnly (λ _. AreKept self.now (map values_of_line lines.now)) (IsCheckFault self.now (map values_of_line lines.now)) result }
+            ⊎ (result ≡ check_answer (first_broken self.now (map values_of_line lines.now))) }
+        ensures kept { IsCatalog self.now }
     {
         check_lines(
             *self.lines.allocator(),
@@ -103,6 +103,7 @@ impl Catalog {
         requires { AreKept self.old (map values_of_line lines.now) }
         ensures ok { OnOk result (self.new ≡ live_lines (self.old ++ map values_of_line lines.now)) }
         ensures err { OnErr result (self.new ≡ self.old) }
+        ensures kept { IsCatalog self.new }
     {
         let alloc = *self.lines.allocator();
         let index = self

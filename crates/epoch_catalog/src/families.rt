@@ -23,6 +23,8 @@ pub enum Family<'a> {
     StationsOf(Code),
     /// The epochs of the channels of a station: its network, and its own code.
     ChannelsOf(Code, Code),
+    /// The events, in the order of their ids.
+    Events,
     /// The restrictions.
     Restrictions,
     /// The restrictions whose network is written as this code.
@@ -52,6 +54,7 @@ fn place_to(family: &Family<'_>, line: &Line) -> Ordering
                 .cmp(&network.as_slice())
                 .then(key.second.cmp(&station.as_slice())),
         ),
+        Family::Events => key.kind.cmp(&KeyKind::Event),
         Family::Restrictions => key.kind.cmp(&KeyKind::Restriction),
         Family::RestrictionsOn(network) => {
             key.kind

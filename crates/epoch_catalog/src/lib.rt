@@ -15,7 +15,7 @@
 //!
 //! The laws of live lines are in `src/law.rt`: a line is live exactly if it is one of the lines, isn't a
 //! deletion, and no later line has its key; what is live after some lines and then others is what is live
-//! after them all; lines that are kept make of a catalog a catalog.
+//! after them all; lines that are kept make of a catalog a catalog; and of a name there is one user.
 //!
 //! `src/merging.rt` merges live lines and new ones: it finds the last new line of each key from the last line
 //! to the first, puts these in the order of their keys, copies them (`src/copying.rt`) and takes room for all
@@ -36,4 +36,7 @@ mod wide;
 
 pub use catalog::Catalog;
 pub use families::Family;
-pub use law::{kept_lines_keep_a_catalog, live_lines_go_on, live_lines_in_the_subjects_words};
+pub use law::{
+    a_name_is_that_of_one_user, kept_lines_keep_a_catalog, live_lines_go_on,
+    live_lines_in_the_subjects_words,
+};

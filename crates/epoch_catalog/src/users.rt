@@ -1,6 +1,5 @@
 //! The users among the lines of a catalog.
-ghost use Rattle.std.specs.Prelude.{◌≡◌, false, map, MatchOption, Contains};
-ghost use Rattle.std.specs.List.{list_any};
+ghost use Rattle.std.specs.Prelude.{◌≡◌, false, find, map, option_map, MatchOption};
 ghost use Rattle.epochs.specs.Values.{user_line};
 ghost use Rattle.epochs.specs.Views.{values_of_line};
 ghost use Rattle.epochs.specs.declared.kinds.LineKind.TheVariants.{Usr};
@@ -33,7 +32,7 @@ fn user_of(line: &Line) -> Option<&User>
 /// The user of that name among the lines of a catalog, found by halves.
 pub fn user_in<'a>(lines: &'a [Line], name: &[u8]) -> Option<&'a User>
     requires { IsCatalog (map values_of_line lines.now) }
-    ensures { MatchOption result (list_any (is_user name.now) (map values_of_line lines.now) ≡ false) (λ user. (user.now.name ≡ name.now) × Contains (map values_of_line lines.now) (user_line user.now.name user.now.ha1 user.now.roles)) }
+    ensures { option_map (λ user. user_line user.now.name user.now.ha1 user.now.roles) result ≡ find (is_user name.now) (map values_of_line lines.now) }
 {
     match lines.binary_search_by(|line| place_to(name, line)) {
         Ok(place) => user_of(&lines[place]),

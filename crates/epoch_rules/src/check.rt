@@ -1,10 +1,9 @@
 //! Whether lines keep the rules.
 ghost use Rattle.std.specs.Prelude.{◌≡◌, ◌⊎◌, IfOk, IfErr, IsErrOf, map};
-ghost use Rattle.list_laws.specs.Only.{IsOnly};
 ghost use Rattle.epochs.specs.Views.{values_of_line};
 ghost use Rattle.epoch_rules.specs.Catalog.{IsCatalog};
 ghost use Rattle.epoch_rules.specs.Indexes.{IsCatalogIndex};
-ghost use Rattle.epoch_rules.specs.Kept.{AreKept, IsCheckFault, RefusesLines};
+ghost use Rattle.epoch_rules.specs.Kept.{AreKept, RefusesLines, check_answer, first_broken};
 
 use crate::index::Index;
 use crate::outline::Outline;
@@ -26,7 +25,7 @@ pub fn check_lines(
     ensures kept { IfOk result (λ _. AreKept (map values_of_line live.now) (map values_of_line lines.now)) }
     ensures refused { IfErr result (RefusesLines (map values_of_line live.now) (map values_of_line lines.now)) }
     ensures exact { IsErrOf result CheckFault.OutOfMemory
-        ⊎ IsOnly (λ _. AreKept (map values_of_line live.now) (map values_of_line lines.now)) (IsCheckFault (map values_of_line live.now) (map values_of_line lines.now)) result }
+        ⊎ (result ≡ check_answer (first_broken (map values_of_line live.now) (map values_of_line lines.now))) }
 {
     let mut outline = Outline::of(alloc, live, index)?;
     'lines: for (place, line) in lines.iter().enumerate() {

@@ -2,9 +2,10 @@
 //!
 //! What the crate above uses: [`check_lines`] answers Ok exactly where lines keep the rules, each over the
 //! live lines with those before it (`AreKept` of `specs/Kept.antt`), and else the first line that breaks a
-//! rule, and the first rule that it breaks (`IsFirstBroken`). It asks that the live lines are a catalog
-//! (`IsCatalog` of `specs/Catalog.antt`): keys rise, no line is a deletion, no epoch overlaps another of its
-//! codes, and each line has what it rests on. It is passed their [`Index`] (`IsCatalogIndex` of `specs/Indexes.antt`),
+//! rule, and the first rule that it breaks (`IsFirstBroken`). `first_broken` tells that line as a function of
+//! the live lines and the lines; by the law of `src/check_law.rt` it is the one right answer. `check_lines` asks
+//! that the live lines are a catalog (`IsCatalog` of `specs/Catalog.antt`): keys rise, no line is a deletion, no
+//! epoch overlaps another of its codes, and each line has what it rests on. It is passed their [`Index`] (`IsCatalogIndex` of `specs/Indexes.antt`),
 //! which the crate above keeps beside them: how many operators there are, and the ends of stations and channels
 //! in order. [`Index::after`] is that of the live lines after some lines more.
 //!

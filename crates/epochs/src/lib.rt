@@ -3,7 +3,8 @@
 //! What the crates above use: [`read_revision`] reads a body of revision lines. It answers Ok exactly with
 //! the lines that the body spells (`IsRevision` of `specs/Revisions.antt`), and else the first fault
 //! (`IsRevisionFault`): by those definitions each body has exactly one answer (`src/law.rt`). Only
-//! [`RevisionFault::OutOfMemory`] needs no cause.
+//! [`RevisionFault::OutOfMemory`] needs no cause. [`is_user_name`], [`is_ha1`] and [`is_skipped`] are the tests
+//! of single texts: a user's name, an HA1, a line that says nothing.
 //!
 //! Which kinds of lines there are, with their fields and keys, stands as a table in
 //! `specs/Kinds.antt`, for lines and for deletions, and what each field spells in `specs/Fields.antt`. A
@@ -42,4 +43,6 @@ pub use line::{
     ChannelEpoch, Deletion, Event, Grant, Line, NetworkEpoch, Restriction, StationEpoch, User,
 };
 pub use parts::{Glob, Roles};
+pub use reading::is_skipped;
 pub use revision::read_revision;
+pub use values::{is_ha1, is_user_name};

@@ -32,7 +32,7 @@ fn begins_with_number_sign(text: &[u8]) -> bool
     }
 }
 
-/// Whether a line says nothing: it has spaces and tabs alone, or is a comment.
+/// Whether a line of a revision says nothing: it has spaces and tabs alone, or begins with `#`.
 pub fn is_skipped(text: &[u8]) -> bool
     ensures { result ≡ is_skipped text.now }
 {

@@ -1,6 +1,6 @@
 //! Each kind of line and of deletion, and the faults of bodies, with ample memory. The moments are those
 //! of Python's datetime.
-use crate::{Key, Line, LineFault, RevisionFault, read_revision};
+use crate::{Key, Line, LineFault, RevisionFault, is_ha1, is_skipped, is_user_name, read_revision};
 use channel_globs::{Code, PatternList};
 use exact_time::{Decimal, Moment, Text};
 use std::alloc::Global;
@@ -419,4 +419,16 @@ fn writes_faults(rt: HostRuntime) -> Result<(), Fail> {
     };
     assert_eq!(&rt; format!(in alloc; "{silent}")?.as_str(), "line 1: NoLine");
     Ok(())
+}
+
+#[test]
+fn tests_single_texts(rt: HostRuntime) {
+    assert!(&rt; is_user_name(b"op") && is_user_name(b"a.b-c_9"));
+    assert!(&rt; !is_user_name(b"") && !is_user_name(b"a b"));
+    assert!(&rt; is_user_name(&[b'a'; 32]) && !is_user_name(&[b'a'; 33]));
+    assert!(&rt; is_ha1(b"939e7578ed9e3c518a452acee763bce9"));
+    assert!(&rt; !is_ha1(b"939E7578ED9E3C518A452ACEE763BCE9"));
+    assert!(&rt; !is_ha1(b"939e7578ed9e3c518a452acee763bce"));
+    assert!(&rt; is_skipped(b"") && is_skipped(b" \t") && is_skipped(b"#NET"));
+    assert!(&rt; !is_skipped(b" #") && !is_skipped(b"NET"));
 }

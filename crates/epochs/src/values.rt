@@ -260,7 +260,8 @@ fn is_event_id(text: &[u8]) -> bool
     1 <= text.len() && text.len() <= 64 && are_id_bytes(text)
 }
 
-fn is_user_name(text: &[u8]) -> bool
+/// Whether a text is a user's name: 1 to 32 letters, digits and `_ - .`.
+pub fn is_user_name(text: &[u8]) -> bool
     ensures { result ≡ is_user_name text.now }
 {
     1 <= text.len() && text.len() <= 32 && are_name_bytes(text)
@@ -277,7 +278,7 @@ pub fn read_event_id(alloc: Global, number: u64, text: &str) -> Result<Text, Fie
     text_of(alloc, text)
 }
 
-/// The name of a user: 1 to 32 letters, digits and `_ - .`.
+/// The name of a user.
 pub fn read_user_name(alloc: Global, number: u64, text: &str) -> Result<Text, FieldFault>
     ensures value { IfOk result (λ t. IsField UserName text.now (words t)) }
     ensures refused { IfErr result (RefusesField UserName number text.now) }
@@ -300,13 +301,21 @@ fn are_lower_hex(text: &[u8]) -> bool
     text.iter().all(|byte| is_lower_hex(*byte))
 }
 
-/// An HA1 of Digest access authentication: 32 lower-case hexadecimal digits.
+/// Whether a text is an HA1 of Digest access authentication (RFC 2617, section 3.2.2.2): 32 lower-case
+/// hexadecimal digits.
+pub fn is_ha1(text: &[u8]) -> bool
+    ensures { result ≡ is_ha1 text.now }
+{
+    text.len() == 32 && are_lower_hex(text)
+}
+
+/// An HA1, as its digits.
 pub fn read_ha1(number: u64, text: &str) -> Result<[u8; 32], FieldFault>
     ensures value { IfOk result (λ digits. IsField Ha1 text.now (words digits)) }
     ensures refused { IfErr result (RefusesField Ha1 number text.now) }
 {
     let bytes = text.as_bytes();
-    if bytes.len() != 32 || !are_lower_hex(bytes) {
+    if !is_ha1(bytes) {
         return Err(bad_value(number));
     }
     let mut digits = [0; 32];

@@ -2,7 +2,8 @@
 use Rattle.std.proofs.Common.{◌≡◌, ℕ, ◌*◌, ◌/◌, refl, pos, negsuc, neg_ℤ, nat_lt, arith, codes, Result, Ok, Err}
 use Rattle.std.specs.declared.cmp.Ordering.TheVariants.{Less, Greater}
 use Rattle.std.specs.Fmt.{digits}
-use Rattle.std.proofs.Math.Nat.{one-dvd}
+use Rattle.std.proofs.Math.Nat.{one-dvd, dvd-add_iff_left}
+use Prim.Native.Nat.{◌∣◌}
 use Rattle.std.proofs.lemmas.Int.{ints}
 use Rattle.jiff_core.specs.Calendar.{days_from_civil}
 use Rattle.jiff_core.proofs.CalendarLemmas.{days_from_civil-day_count}
@@ -18,7 +19,8 @@ use Rattle.exact_time.proofs.MomentTexts.{moment_text_is}
 use Rattle.exact_time.specs.declared.moment.TimeFault.TheVariants.{Form, Range}
 use Rattle.exact_time.specs.Causes.{Rose, HasCause}
 use Rattle.exact_time.specs.Rate.{seed_rate, IsFraction}
-use Rattle.exact_time.specs.SampleTime.{sample_micros, compare_sample, half_parts}
+use Rattle.exact_time.specs.RateOrder.{rate_cmp}
+use Rattle.exact_time.specs.SampleTime.{sample_micros, compare_sample, half_parts, floor_at, reach_at}
 use Rattle.exact_time.specs.declared.ratio.Ratio.{Ratio}
 
 date : date_text 2024 2 1 ≡ codes "2024-02-01"
@@ -202,3 +204,28 @@ long_whole = decimal_right (codes "0000000000000000001.5")
 -- half a period at 3 Hz, in three parts of a microsecond
 half_of_three_hertz : half_parts three_hertz ≡ 500_000
 half_of_three_hertz = refl
+
+-- a third of a second, rounded down to a microsecond; also before 1970
+third_down : floor_at (pos 0) 1 three_hertz ≡ pos 333_333
+third_down = refl
+
+third_down_before : floor_at (neg_ℤ (pos 1_000_000)) 1 three_hertz ≡ neg_ℤ (pos 666_667)
+third_down_before = refl
+
+-- two thirds of a second and half a period, or a second where so much is allowed
+five_sixths : reach_at (pos 0) 2 three_hertz 0 ≡ pos 833_333
+five_sixths = refl
+
+a_second_more : reach_at (pos 0) 2 three_hertz 1_000_000 ≡ pos 1_666_666
+a_second_more = refl
+
+ten_and_nine : (d : ℕ) → d ∣ 9 → d ∣ 10 → d ∣ 1
+ten_and_nine d p q = (dvd-add_iff_left d {m = 1} {n = 9} p).1 q
+
+-- nine tenths are less than three, though the text of nine stands behind that of three
+nine_tenths : Ratio
+nine_tenths = record three_hertz { num = 9; den = 10; num_in = omega arith; den_in = omega arith; above = omega arith; lowest = (one-dvd 9, one-dvd 10, ten_and_nine) }
+
+by_value : rate_cmp nine_tenths three_hertz ≡ Less
+unfolding nine_tenths
+by_value = refl

@@ -1,5 +1,6 @@
 pub mod Ascii
 pub mod Calendar
+pub mod Clock
 pub mod Days
 pub mod DecimalTexts
 pub mod DecimalsWritten
@@ -10,4 +11,5 @@ pub mod MomentFound
 pub mod MomentTexts
 pub mod Rates
 pub mod Spellings
+pub mod Wholes
 pub mod WrittenTexts

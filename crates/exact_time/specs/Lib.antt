@@ -1,8 +1,10 @@
 pub mod BTime
 pub mod Causes
+pub mod Clock
 pub mod DecimalSteps
 pub mod Decimals
 pub mod MomentText
 pub mod Rate
+pub mod RateOrder
 pub mod SampleTime
 pub mod Written

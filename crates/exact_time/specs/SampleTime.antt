@@ -1,5 +1,5 @@
 -- Times of samples as exact fractions of a microsecond.
-use Rattle.std.specs.Prelude.{ℕ, ◌*◌, ◌==◌, max, if◌then◌else◌, ℤ, pos, neg_ℤ, ◌+ℤ◌, ◌-ℤ◌, ◌*ℤ◌, ◌≤ℤ◌}
+use Rattle.std.specs.Prelude.{ℕ, ◌+◌, ◌*◌, ◌/◌, ◌==◌, max, if◌then◌else◌, ℤ, pos, neg_ℤ, ◌+ℤ◌, ◌-ℤ◌, ◌*ℤ◌, ◌≤ℤ◌}
 use Rattle.std.specs.Ordering.{int_cmp}
 use Rattle.std.specs.declared.cmp.Ordering.{Ordering}
 use Rattle.exact_time.specs.declared.ratio.Ratio.{Ratio}
@@ -45,3 +45,19 @@ IsGapAtMost t start slack = lateness t start ≤ℤ pos (max (slack * sample_par
 -- the time is later than the moment by at most half a period
 abbrev pub IsOverlapAtMost : SampleTime → ℤ → Type 0
 IsOverlapAtMost t start = neg_ℤ (lateness t start) ≤ℤ pos (half_parts t.rate)
+
+-- sample k after the start, rounded down to a microsecond
+abbrev pub floor_at : ℤ → ℕ → Ratio → ℤ
+floor_at start k rate = start +ℤ pos (k * rate.den * 1_000_000 / sample_parts rate)
+
+abbrev pub floor_micros : SampleTime → ℤ
+floor_micros t = floor_at t.start.micros t.k t.rate
+
+-- how far sample k reaches: half a period behind it, or so many microseconds where these are more, rounded
+-- down to a microsecond
+abbrev pub reach_at : ℤ → ℕ → Ratio → ℕ → ℤ
+reach_at start k rate slack =
+    start +ℤ pos ((k * rate.den * 1_000_000 + max (slack * sample_parts rate) (half_parts rate)) / sample_parts rate)
+
+abbrev pub reach_micros : SampleTime → ℕ → ℤ
+reach_micros t slack = reach_at t.start.micros t.k t.rate slack

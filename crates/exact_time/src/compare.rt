@@ -1,4 +1,4 @@
-ghost use Rattle.std.specs.Prelude.{◌≡◌, ◌≤◌, ◌<◌, ◌*◌, ◌^◌, ◌↔◌, pos, ◌*ℤ◌, ◌≤ℤ◌, unsigned_abs, IsTrue};
+ghost use Rattle.std.specs.Prelude.{◌≡◌, ◌≤◌, ◌<◌, ◌*◌, ◌^◌, ◌↔◌, max, pos, ◌*ℤ◌, ◌≤ℤ◌, unsigned_abs, IsTrue};
 ghost use Rattle.exact_time.specs.SampleTime.{sample_cmp, times_cmp, time_micros, sample_parts, half_parts, lateness, IsGapAtMost, IsOverlapAtMost};
 
 use crate::{Moment, SampleTime};
@@ -13,8 +13,8 @@ fn scaled(micros: i64, parts: u32) -> i128
     micros as i128 * parts as i128
 }
 
-// The microseconds from the start to sample k, times the rate's numerator.
-fn lead(k: u32, den: u32) -> u128
+/// The microseconds from the start to sample k, times the rate's numerator.
+pub(crate) fn lead(k: u32, den: u32) -> u128
     requires k_in { k ≤ 65_535 }
     requires den_in { den ≤ 1_073_741_824 }
     ensures value { result ≡ k * den * 1_000_000 }
@@ -27,6 +27,7 @@ fn lead(k: u32, den: u32) -> u128
 pub fn parts(time: SampleTime) -> u32
     ensures value { result ≡ sample_parts time.rate }
     ensures bound { result ≤ 1_073_741_824 }
+    ensures some { 0 < result }
 {
     if time.rate.num == 0 { 1 } else { time.rate.num }
 }
@@ -84,6 +85,16 @@ pub fn lateness(time: SampleTime, q: Moment) -> i128
     scaled(q.micros, parts(time)) - micros(time)
 }
 
+/// What may lie between a time and what follows it without a gap: the greater of half a sample period and
+/// `slack` microseconds, times the divisor.
+pub(crate) fn room(next: SampleTime, slack: u64) -> u128
+    ensures value { result ≡ max (slack * sample_parts next.rate) (half_parts next.rate) }
+    ensures bound { result < 2 ^ 95 }
+{
+    let room = slack as u128 * parts(next) as u128;
+    room.max(half(next) as u128)
+}
+
 // Whether a signed number is at most an unsigned one.
 fn at_most(a: i128, most: u128) -> bool
     requires { most < 2 ^ 127 }
@@ -98,8 +109,7 @@ fn at_most(a: i128, most: u128) -> bool
 pub fn gap_at_most(next: SampleTime, start: Moment, slack: u64) -> bool
     ensures { IsTrue result ↔ IsGapAtMost next start.micros slack }
 {
-    let room = slack as u128 * parts(next) as u128;
-    at_most(lateness(next, start), room.max(half(next) as u128))
+    at_most(lateness(next, start), room(next, slack))
 }
 
 /// Whether a record that starts at `start` doesn't overlap what is before it: `next` is later than

@@ -1,4 +1,4 @@
-ghost use Rattle.std.specs.Prelude.{◌≡◌, ℕ, ◌<◌, ◌↔◌, List, [], ◌∷◌, ◌++◌, length, IsTrue, IsSome, OnOk, OnErr, option_to_list};
+ghost use Rattle.std.specs.Prelude.{◌≡◌, ℕ, ◌<◌, ◌↔◌, List, [], ◌∷◌, ◌++◌, length, IsTrue, IsSome, IfOk, OnOk, OnErr, option_to_list};
 
 use crate::OutOfMemory;
 use std::alloc::Global;
@@ -24,6 +24,22 @@ impl Bytes {
         Bytes {
             inner: Vec::new(alloc),
         }
+    }
+
+    /// These bytes as they lie. Copies nothing.
+    pub fn from_vec(bytes: Vec<u8>) -> Bytes
+        ensures { result ≡ bytes.items }
+    {
+        Bytes { inner: bytes }
+    }
+
+    /// A copy of the bytes.
+    pub fn copy(&self, alloc: Global) -> Result<Bytes, OutOfMemory>
+        ensures { IfOk result (λ copy. copy ≡ self.now) }
+    {
+        let mut copy = Bytes::new(alloc);
+        copy.extend(self.as_slice())?;
+        Ok(copy)
     }
 
     /// Puts a byte at the end.
@@ -88,6 +104,15 @@ impl Text {
         Text {
             inner: String::new(alloc),
         }
+    }
+
+    /// A copy of the text.
+    pub fn copy(&self, alloc: Global) -> Result<Text, OutOfMemory>
+        ensures { IfOk result (λ copy. copy ≡ self.now) }
+    {
+        let mut copy = Text::new(alloc);
+        copy.push(self.as_str())?;
+        Ok(copy)
     }
 
     /// Where the text takes its memory.

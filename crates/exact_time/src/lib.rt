@@ -1,10 +1,12 @@
 //! Exact times, rates and small growing values, under every other crate.
 //!
 //! What the crates above use: a sample's time is an exact fraction, and [`cmp_sample_time`] compares
-//! it with a moment without rounding (`specs/SampleTime.antt`). Texts of times are read by
+//! it with a moment without rounding; [`SampleTime::floor`] and [`reach`] say the same in whole
+//! microseconds (`specs/SampleTime.antt`). Texts of times are read by
 //! [`Moment::read`] (`specs/MomentText.antt`; FDSN Web Service Specifications 1.2, time values), the
 //! start of a record by [`btime`] (`specs/BTime.antt`; SEED 2.4, chapter 3, the BTIME structure), its
 //! rate by [`Ratio::of`] (`specs/Rate.antt`; SEED 2.4, fixed section of data header, fields 10 and 11).
+//! Rates are ordered by their values (`specs/RateOrder.antt`).
 //!
 //! Moments, numbers and rates are written by [`Moment::write`] (`specs/Written.antt`),
 //! [`Decimal::write`] and [`Ratio::write`] (`specs/Decimals.antt`), and numbers are read by
@@ -23,11 +25,13 @@ mod fields;
 mod growing;
 mod law;
 mod moment;
+mod rate_order;
 mod ratio;
 mod reading;
 mod sample;
 #[cfg(test)]
 mod tests;
+mod whole;
 mod writing;
 
 pub use civil::btime;
@@ -36,7 +40,8 @@ pub use decimal::{Decimal, are_digits, number_of};
 pub use error::{Failed, OutOfMemory, TextRefusal};
 pub use fields::BTime;
 pub use growing::{Bytes, Many, Text};
-pub use law::a_text_is_one_value_or_one_fault;
+pub use law::{a_text_is_one_value_or_one_fault, rates_are_in_order_of_their_values};
 pub use moment::{Moment, TimeFault};
 pub use ratio::Ratio;
 pub use sample::SampleTime;
+pub use whole::reach;

@@ -32,6 +32,7 @@ impl Error for TimeFault {}
 impl Moment {
     ghost use Rattle.std.specs.Prelude.{◌≡◌, ◌↔◌, IfOk, IsErrOf};
     ghost use Rattle.list_laws.specs.Only.{IsOnly};
+    ghost use Rattle.exact_time.specs.Clock.{is_clock_moment};
     ghost use Rattle.exact_time.specs.MomentText.{IsMoment, RefusesMoment};
 
     /// The moment that a text names: `YYYY-MM-DD`, or `YYYY-MM-DDThh:mm:ss` with an optional point
@@ -49,5 +50,12 @@ impl Moment {
             return Err(TimeFault::Range);
         };
         Ok(moment)
+    }
+
+    /// Whether a clock can give the moment: it is of the years 1970 to 2599.
+    pub fn is_clock_moment(self) -> bool
+        ensures { result ≡ is_clock_moment self }
+    {
+        self.micros >= 0 && self.micros < 19_880_899_200_000_000
     }
 }

@@ -4,7 +4,7 @@ ghost use Rattle.exact_time.specs.Written.{IsWritable};
 use crate::{
     BTime, Bytes, Decimal, Many, Moment, OutOfMemory, Ratio, SampleTime, Text, TextRefusal,
     TimeFault, are_digits, btime, cmp_sample_time, cmp_times, gap_at_most, lateness, number_of,
-    overlap_at_most, parts,
+    overlap_at_most, parts, reach,
 };
 use std::alloc::Global;
 use std::cmp::Ordering;
@@ -314,6 +314,76 @@ fn allows_half_a_period(rt: HostRuntime) {
     assert_eq!(rt; cmp_times(also, next), Ordering::Equal);
 }
 
+// One third of a second and two thirds, and the end of all moments.
+#[test]
+fn rounds_down(rt: HostRuntime) {
+    let last = i64::MAX;
+    for (start, k, wanted) in [
+        (0, 1, 333_333),
+        (0, 2, 666_666),
+        (-1_000_000, 1, -666_667),
+        (7, 3, 1_000_007),
+        (last, 0, last),
+        (last, 1, last),
+    ] {
+        let time = SampleTime {
+            start: Moment { micros: start },
+            k,
+            rate: Ratio::of(3, 1),
+        };
+        assert_eq!(rt; time.floor(), Moment { micros: wanted });
+    }
+}
+
+// Half a period is 166,666 microseconds and two thirds at 3 Hz, 25,000 at 20 Hz, and nothing at rate 0.
+#[test]
+fn reaches_half_a_period(rt: HostRuntime) {
+    for (k, rate, slack, wanted) in [
+        (2, Ratio::of(3, 1), 0, 833_333),
+        (2, Ratio::of(3, 1), 166_667, 833_333),
+        (2, Ratio::of(3, 1), 166_668, 833_334),
+        (100, Ratio::of(20, 1), 0, 5_025_000),
+        (0, Ratio::of(0, 1), 0, 0),
+        (0, Ratio::of(0, 1), 5, 5),
+    ] {
+        let next = SampleTime {
+            start: Moment { micros: 0 },
+            k,
+            rate,
+        };
+        assert_eq!(rt; reach(next, slack), wanted);
+    }
+}
+
+// By their values: a third, nine tenths, 1, 10, 100.
+#[test]
+fn orders_rates_by_value(rt: HostRuntime) {
+    let rates = [
+        Ratio::of(0, 1),
+        Ratio::of(1, -3),
+        Ratio::of(9, -10),
+        Ratio::of(1, 1),
+        Ratio::of(10, 1),
+        Ratio::of(100, 1),
+    ];
+    for i in 1..rates.len() {
+        assert!(rt; rates[i - 1] < rates[i]);
+    }
+    assert_eq!(rt; Ratio::of(2, 2).cmp(&Ratio::of(4, 1)), Ordering::Equal);
+}
+
+#[test]
+fn tells_moments_of_a_clock(rt: HostRuntime) {
+    for (micros, wanted) in [
+        (-1, false),
+        (0, true),
+        (19_880_899_199_999_999, true),
+        (19_880_899_200_000_000, false),
+    ] {
+        assert_eq!(rt; Moment { micros }.is_clock_moment(), wanted);
+    }
+}
+
 #[test]
 fn grows(rt: HostRuntime) -> Result<(), OutOfMemory> {
     let alloc = rt.alloc();
@@ -323,10 +393,14 @@ fn grows(rt: HostRuntime) -> Result<(), OutOfMemory> {
     bytes.extend(&[2, 3])?;
     assert_eq!(rt; bytes.as_slice(), [1, 2, 3].as_slice());
     assert_eq!(rt; bytes.len(), 3);
+    assert_eq!(rt; bytes.copy(alloc)?.as_slice(), [1, 2, 3].as_slice());
+    let taken = Bytes::from_vec(vec![in alloc; 4, 5]?);
+    assert_eq!(rt; taken.as_slice(), [4, 5].as_slice());
     let mut text = Text::new(alloc);
     text.push("IU ")?;
     text.push("ANMO")?;
     assert_eq!(rt; text.as_slice(), b"IU ANMO".as_slice());
+    assert_eq!(rt; text.copy(alloc)?.as_str(), "IU ANMO");
     assert!(rt; text.len() == 7 && !text.is_empty());
     let mut many = Many::new(alloc);
     many.push(text)?;

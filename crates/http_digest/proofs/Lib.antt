@@ -6,3 +6,4 @@ pub mod Examples
 pub mod HeaderLaw
 pub mod Hexadecimal
 pub mod NonceLaw
+pub mod NamesOnce

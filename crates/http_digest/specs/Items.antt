@@ -1,6 +1,9 @@
 -- How credentials are cut into items, byte by byte, and how a header is read by that.
 use Rattle.std.specs.Prelude.{ℕ, ◌==◌, ◌&&◌, ◌≡◌, Bool, if◌then◌else◌, nat_le, List, [], ◌∷◌, ◌++◌, length, take, drop, Option, Some, None, option_and_then, codes}
-use Rattle.std.specs.Str.{str_eq_ignore_ascii_case}
+use Rattle.std.specs.List.{list_any}
+use Rattle.std.specs.Borrow.{Bor}
+use Rattle.std.specs.BTreeSet.{BTreeSet}
+use Rattle.std.specs.Str.{bytes_eq, str_eq_ignore_ascii_case}
 use Rattle.http_digest.specs.Credentials.{space, quotation_mark, comma, equals_sign, backslash, is_token_byte}
 use Rattle.http_digest.specs.Parts.{authorization_said}
 use Rattle.http_digest.specs.declared.authorization.AuthFault.{AuthFault}
@@ -94,3 +97,7 @@ items_in header = option_and_then (items_from nothing_read) (behind_scheme heade
 
 abbrev pub authorization_in : List ℕ → Option Authorization
 authorization_in header = option_and_then authorization_said (items_in header)
+
+-- a name is among those of a set
+abbrev pub has_name : BTreeSet (Bor (List ℕ)) → List ℕ → Bool
+has_name names name = list_any (λ n. bytes_eq n.now name) names.keys

@@ -1,15 +1,16 @@
 //! What the items of credentials say.
-ghost use Rattle.std.specs.Prelude.{◌≡◌, option_map, option_and_then, MatchResult, codes};
+ghost use Rattle.std.specs.Prelude.{◌≡◌, ◌||◌, not, List, ℕ, option_map, option_and_then, MatchResult, IfOk, OnOk, codes};
 ghost use Rattle.std.specs.List.{list_all};
 ghost use Rattle.std.specs.Char.{is_ascii_hexdigit};
 ghost use Rattle.std.specs.Str.{bytes_eq, is_utf8};
-ghost use Rattle.http_digest.specs.Items.{Refuses};
+ghost use Rattle.http_digest.specs.Items.{Refuses, has_name};
 ghost use Rattle.http_digest.specs.Parts.{value_of, names_are_once, are_texts, text_in, required, is_realm, is_algorithm, are_fit, is_digest, response_in, part_said, auth_said, parts_said, authorization_said};
 
 use crate::authorization::{AuthFault, AuthPart, Authorization};
 use crate::item::Item;
-use exact_time::Text;
+use exact_time::{OutOfMemory, Text};
 use std::alloc::Global;
+use std::collections::BTreeSet;
 
 fn is_named(item: &Item, name: &[u8]) -> bool
     ensures { result ≡ bytes_eq item.now.name name.now }
@@ -28,17 +29,27 @@ fn value_of<'a>(items: &'a [Item], name: &[u8]) -> Option<&'a [u8]>
     None
 }
 
-fn names_are_once(items: &[Item]) -> bool
-    ensures { result ≡ names_are_once items.now }
+// Adds a name. False where it is there already.
+fn add_name<'a>(names: &mut BTreeSet<&'a [u8]>, name: &'a [u8]) -> Result<bool, OutOfMemory>
+    ensures added { IfOk result (λ new. new ≡ not (has_name names.old name.now)) }
+    ensures names { OnOk result ((other : List ℕ) → has_name names.new other ≡ (bytes_eq name.now other || has_name names.old other)) }
 {
+    Ok(names.insert(name)?)
+}
+
+// Whether no name stands twice, by the names from the last to the first.
+fn names_are_once(alloc: Global, items: &[Item]) -> Result<bool, OutOfMemory>
+    ensures { IfOk result (λ once. once ≡ names_are_once items.now) }
+{
+    let mut names = BTreeSet::new(alloc);
     let mut left = items;
-    'items: while let [item, rest @ ..] = left {
-        if value_of(rest, item.name.as_slice()).is_some() {
-            return false;
+    'items: while let Some((item, rest)) = left.split_last() {
+        if !add_name(&mut names, item.name.as_slice())? {
+            return Ok(false);
         }
         left = rest;
     }
-    true
+    Ok(true)
 }
 
 fn is_text(bytes: &[u8]) -> bool
@@ -71,13 +82,16 @@ fn is_algorithm(name: Option<&[u8]>) -> bool
     }
 }
 
-fn are_fit(items: &[Item]) -> bool
-    ensures { result ≡ are_fit items.now }
+fn are_fit(alloc: Global, items: &[Item]) -> Result<bool, OutOfMemory>
+    ensures { IfOk result (λ fit. fit ≡ are_fit items.now) }
 {
-    are_texts(items)
-        && names_are_once(items)
-        && is_realm(value_of(items, b"realm"))
-        && is_algorithm(value_of(items, b"algorithm"))
+    let once = names_are_once(alloc, items)?;
+    Ok(
+        are_texts(items)
+            && once
+            && is_realm(value_of(items, b"realm"))
+            && is_algorithm(value_of(items, b"algorithm")),
+    )
 }
 
 // The bytes as a text.
@@ -177,7 +191,7 @@ fn parts_said(alloc: Global, items: &[Item]) -> Result<Authorization, AuthFault>
 pub(crate) fn authorization_said(alloc: Global, items: &[Item]) -> Result<Authorization, AuthFault>
     ensures { MatchResult result (λ parts. authorization_said items.now ≡ Some parts) (Refuses (authorization_said items.now)) }
 {
-    if !are_fit(items) {
+    if !are_fit(alloc, items)? {
         return Err(AuthFault::Unreadable);
     }
     parts_said(alloc, items)

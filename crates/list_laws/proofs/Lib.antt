@@ -1,5 +1,11 @@
 pub mod Answers
+pub mod Crossed
 pub mod Examples
+pub mod Greatest
 pub mod Keys
+pub mod Lasts
+pub mod LowestTerms
+pub mod Mended
+pub mod Passes
 pub mod Places
 pub mod Refusals

@@ -3,15 +3,22 @@
 //!
 //! `specs/Faults.antt`: the first element of a list that a reader refuses. `specs/Runs.antt`: a run of
 //! steps over a list, where a step may depend on those before it. `specs/InOrder.antt`: keys put in
-//! order, each once.
+//! order, each once. `specs/Breaks.antt`: a list cut into runs where an item breaks after those before it.
+//! `specs/Mending.antt`: spans that are kept merged. `specs/Greater.antt` and `specs/Fractions.antt`: the
+//! greater of two, and the order of fractions.
 #![tactic(auto)]
 
-ghost use Rattle.std.specs.Prelude.{◌≡◌, ℕ, Bool, true, List, [], ◌∷◌, ◌++◌, Result, Ok, Err};
+ghost use Rattle.std.specs.Prelude.{◌≡◌, ℕ, ◌<◌, ℤ, Bool, true, List, [], ◌∷◌, ◌++◌, Result, Ok, Err};
+ghost use Rattle.std.specs.Cmp.{IsTotalOrder};
+ghost use Rattle.std.specs.Int.{int_min, int_max};
 ghost use Rattle.std.specs.List.{list_any};
 ghost use Rattle.std.specs.List.Sorted.{IsStrictlySortedBy};
 ghost use Rattle.std.specs.Ordering.{eq_by_cmp};
 ghost use Rattle.std.specs.declared.cmp.Ordering.TheVariants.{Equal};
+ghost use Rattle.list_laws.specs.Fractions.{cross_cmp};
+ghost use Rattle.list_laws.specs.Greater.{greater};
 ghost use Rattle.list_laws.specs.InOrder.{in_order};
+ghost use Rattle.list_laws.specs.Mending.{IsForward, AreSpread, mend};
 ghost use Rattle.list_laws.specs.Runs.{run_from, IsFirstRefused};
 
 /// Of a run of steps: where it is refused, the first refused element decides, and each before it was
@@ -38,4 +45,27 @@ pub fn members_decide_the_order<K: Ord>()
     ensures decided { ((x y : K) → K.cmp x y ≡ Equal → x ≡ y) → (xs ys : List K)
         → ((key : K) → list_any (eq_by_cmp K.cmp key) xs ≡ list_any (eq_by_cmp K.cmp key) ys)
         → in_order K.cmp [] xs ≡ in_order K.cmp [] ys }
+{}
+
+/// Of spans that are kept merged: they stay in order and apart, and in which order two more go in makes no
+/// difference, where a join has the least start and the greatest reach.
+pub fn spans_go_in_in_any_order<S>()
+    ensures { (start reach : S → ℤ) (join : S → S → S)
+        → ((a b : S) → join a b ≡ join b a) → ((a b c : S) → join (join a b) c ≡ join a (join b c))
+        → ((a b : S) → start (join a b) ≡ int_min (start a) (start b))
+        → ((a b : S) → reach (join a b) ≡ int_max (reach a) (reach b))
+        → (s x : S) (ts : List S) → IsForward start reach s → IsForward start reach x → AreSpread start reach ts
+        → (AreSpread start reach (mend start reach join s ts))
+        × (mend start reach join s (mend start reach join x ts) ≡ mend start reach join x (mend start reach join s ts)) }
+{}
+
+/// Of two under an order the greater: which of them comes first makes no difference.
+pub fn the_greater_is_one<K: Ord>()
+    ensures { ((x y : K) → K.cmp x y ≡ Equal → x ≡ y) → (a b c : K)
+        → (greater K.cmp a b ≡ greater K.cmp b a) × (greater K.cmp (greater K.cmp a b) c ≡ greater K.cmp a (greater K.cmp b c)) }
+{}
+
+/// Fractions are in one order by cross multiplication.
+pub fn fractions_are_in_order<K>()
+    ensures { (num den : K → ℕ) → ((k : K) → 0 < den k) → IsTotalOrder (cross_cmp num den) }
 {}

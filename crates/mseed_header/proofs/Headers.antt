@@ -1,5 +1,5 @@
 -- Bytes begin with the record of one header at most; they have that header or one fault.
-use Rattle.std.proofs.Common.{◌≡◌, ℕ, ◌==◌, ◌≤◌, if◌then◌else◌, List, length, Bool, true, false, Some, Result, Ok, Err, MatchResult, refl, sym, ap, ◌∙◌, subst, arith, inl, inr, ℤ, pos}
+use Rattle.std.proofs.Common.{◌≡◌, ℕ, ◌==◌, ◌≤◌, List, length, Bool, true, false, Some, Result, Ok, Err, MatchResult, refl, sym, ap, ◌∙◌, subst, arith, inl, inr, ℤ, pos}
 use Rattle.std.specs.Prelude.{IsErrOf, slice_index, ◌↔◌}
 use Rattle.std.proofs.lemmas.Bool.Decides.{nat_tests}
 use Rattle.list_laws.specs.Only.{IsOnly}
@@ -20,7 +20,6 @@ use Rattle.mseed_header.specs.declared.header.Header.{Header}
 use Rattle.mseed_header.specs.declared.header.RecordFault.{RecordFault}
 use Rattle.mseed_header.specs.declared.header.RecordFault.TheVariants.{Short, Year, Time, Quality, Code, Chain, NoBlockette1000, Reach}
 use Rattle.mseed_header.specs.declared.quality.Quality as letter
-use Rattle.mseed_header.specs.declared.quality.Quality.TheVariants.{D, M, Q, R}
 
 -- each code is a function of its field
 one_name : (bytes : List ℕ) (n m : Nslc) → IsName bytes n → IsName bytes m → n ≡ m

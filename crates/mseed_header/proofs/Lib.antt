@@ -4,6 +4,10 @@ pub mod CodeFields
 pub mod Examples
 pub mod Fronts
 pub mod Headers
+pub mod Octets
+pub mod OneBatch
+pub mod OneChain
+pub mod OneHeader
 pub mod Qualities
 pub mod Rows
 pub mod Starts

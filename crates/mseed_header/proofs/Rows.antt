@@ -3,6 +3,7 @@ use Rattle.std.proofs.Common.{◌≡◌, ℕ, suc, ◌+◌, ◌≤ℤ◌, ◌<�
 use Rattle.std.specs.List.{slice_get}
 use Rattle.std.proofs.Props.{props}
 use Rattle.std.proofs.Math.Seq.{take-append_seam}
+use Rattle.std.proofs.lemmas.Int.{ints}
 use Rattle.std.proofs.lemmas.List.{append_cancel_left}
 use mathlib.Core.HLevel.{is_prop→PathP}
 use Rattle.list_laws.specs.Only.{IsOnly}
@@ -11,7 +12,7 @@ use Rattle.exact_time.specs.declared.moment.Moment.{Moment}
 use Rattle.mseed_header.proofs.Fronts.{header_in_front, record_header, record_whole}
 use Rattle.mseed_header.proofs.Headers.{one_header, one_fault, no_header}
 use Rattle.mseed_header.specs.Header.{HasHeader, IsRecord, IsRecord-prop, RefusesRecord}
-use Rattle.mseed_header.specs.Records.{images_of, IsPlaced, AreRecords, IsFirstBad, IsBatchFault}
+use Rattle.mseed_header.specs.Records.{images_of, IsPlaced, AreRecords, HasRecordCount, IsFirstBad, IsRefusedFirst, IsBatchFault}
 use Rattle.mseed_header.specs.declared.cut.CutFault.{CutFault}
 use Rattle.mseed_header.specs.declared.cut.CutFault.TheVariants.{Bad, OutOfMemory}
 use Rattle.mseed_header.specs.declared.header.Header.{Header}
@@ -131,3 +132,26 @@ pub only_batch : (bytes : List ℕ) (entry : ℕ) (moment : Moment) (answer : Re
     → IsOnly (AreRecords bytes entry moment) (IsBatchFault bytes) answer
 only_batch bytes entry moment answer right =
     only_from (AreRecords bytes entry moment) (IsBatchFault bytes) (one_batch bytes entry moment) (one_batch_fault bytes) (no_batch_fault bytes entry moment) answer right
+
+-- ---- the number of records
+
+-- a moment that any rows may have
+abbrev zero_moment : Moment
+zero_moment = record { micros = pos 0 }
+
+pub one_count : (bytes : List ℕ) (m n : ℕ) → HasRecordCount bytes m → HasRecordCount bytes n → m ≡ n
+one_count bytes m n h k =
+    let a = h 0 zero_moment (omega (arith, ints)) (omega (arith, ints)) in
+    let b = k 0 zero_moment (omega (arith, ints)) (omega (arith, ints)) in
+    sym a.2 ∙ ap (λ (rows : List Row). length rows) (one_batch bytes 0 zero_moment a.0 b.0 a.1 b.1) ∙ b.2
+
+one_refused : (bytes : List ℕ) (f g : ℕ × RecordFault) → IsRefusedFirst bytes f → IsRefusedFirst bytes g → f ≡ g
+one_refused bytes f g h k = let same = one_first_bad bytes f.0 g.0 f.1 g.1 h k in λ i. (same.0 i, same.1 i)
+
+no_count : (bytes : List ℕ) (n : ℕ) (f : ℕ × RecordFault) → HasRecordCount bytes n → IsRefusedFirst bytes f → ⊥
+no_count bytes n f h k =
+    let a = h 0 zero_moment (omega (arith, ints)) (omega (arith, ints)) in
+    no_batch bytes 0 zero_moment a.0 f.0 f.1 a.1 k
+
+pub only_count : (bytes : List ℕ) (answer : Result ℕ (ℕ × RecordFault)) → MatchResult answer (HasRecordCount bytes) (IsRefusedFirst bytes) → IsOnly (HasRecordCount bytes) (IsRefusedFirst bytes) answer
+only_count bytes answer right = only_from (HasRecordCount bytes) (IsRefusedFirst bytes) (one_count bytes) (one_refused bytes) (no_count bytes) answer right

@@ -2,6 +2,7 @@ pub mod Blockettes
 pub mod CodeField
 pub mod Fields
 pub mod Header
+pub mod Octets
 pub mod Quality
 pub mod Records
 pub mod Steps

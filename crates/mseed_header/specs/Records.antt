@@ -23,11 +23,12 @@ pub record AreRecords (bytes : List ℕ) (entry : ℕ) (moment : Moment) (rows :
   pub whole : bytes ≡ images_of rows
   pub placed : (i : ℕ) (row : Row) → slice_get rows i ≡ Some row → IsPlaced entry moment i row
 
--- the bytes are records end to end: they have rows, whichever entry and moment of 1970 to 2599 brings them
-abbrev pub HasRecords : List ℕ → Type 0
-HasRecords bytes =
+-- the bytes are so many records end to end: they have so many rows, whichever entry and moment of 1970 to
+-- 2599 brings them
+abbrev pub HasRecordCount : List ℕ → ℕ → Type 0
+HasRecordCount bytes count =
     (entry : ℕ) (moment : Moment) → pos 0 ≤ℤ moment.micros → moment.micros <ℤ pos 19_880_899_200_000_000
-    → (rows : List Row) × AreRecords bytes entry moment rows
+    → (rows : List Row) × AreRecords bytes entry moment rows × (length rows ≡ count)
 
 -- whole records stand before this offset, and the bytes from there on are refused
 pub record IsFirstBad (bytes : List ℕ) (at : ℕ) (fault : RecordFault) : Type 0 where
@@ -36,6 +37,10 @@ pub record IsFirstBad (bytes : List ℕ) (at : ℕ) (fault : RecordFault) : Type
   pub offset : at ≡ length (images_of before)
   pub some : drop at bytes ≢ []
   pub refused : RefusesRecord (drop at bytes) fault
+
+-- an offset and a fault are those of the first record that is refused
+abbrev pub IsRefusedFirst : List ℕ → ℕ × RecordFault → Type 0
+IsRefusedFirst bytes found = IsFirstBad bytes found.0 found.1
 
 -- why bytes are no records end to end; want of memory is free
 abbrev pub RefusesBatch : List ℕ → CutFault → Type 0

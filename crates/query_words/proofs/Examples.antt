@@ -5,13 +5,14 @@ use Rattle.form_urlencoded.specs.Form.{parse}
 use Rattle.mseed_header.specs.declared.quality.Quality.TheVariants.{M}
 use Rattle.dataselect.specs.declared.query.Nodata.TheVariants.{NotFound}
 use Rattle.exact_time.specs.Decimals.{Unsigned}
-use Rattle.query_words.specs.declared.fault.QueryFault.TheVariants.{Unknown, Repeated}
-use Rattle.query_words.specs.declared.rows.ValueKind.TheVariants.{Level, Seconds}
-use Rattle.query_words.specs.Bodies.{numbered, is_blank_line, lines_of, parameter_lines, selection_lines, parameter_of, selection_fields, limit_text}
-use Rattle.query_words.specs.Gets.{said, said_or}
-use Rattle.query_words.specs.Parameters.{parameter, numbered_from, RefusesParameter}
-use Rattle.query_words.specs.Rows.{Text, data_names, data_options, station_names, place_of_name, kind_of}
-use Rattle.query_words.specs.Values.{quality_of, nodata_of, flag_of, IsMinimum, IsLeftOut}
+use Rattle.query_parameters.specs.declared.fault.QueryFault.TheVariants.{Unknown, Repeated}
+use Rattle.query_parameters.specs.declared.rows.ValueKind.TheVariants.{Level, Seconds}
+use Rattle.query_parameters.specs.Bodies.{numbered, is_blank_line, lines_of, parameter_lines, selection_lines, parameter_of, selection_fields, limit_text}
+use Rattle.query_parameters.specs.Gets.{said, said_or}
+use Rattle.query_parameters.specs.Parameters.{parameter, numbered_from, RefusesParameter}
+use Rattle.query_parameters.specs.Rows.{Text, place_of_name, kind_of}
+use Rattle.query_words.specs.Tables.{data_names, data_options, station_names}
+use Rattle.query_parameters.specs.Values.{quality_of, nodata_of, flag_of, IsMinimum, IsLeftOut}
 
 -- a name and its alias are one name, whatever their case
 network : place_of_name data_names (codes "NetWork") ≡ place_of_name data_names (codes "net")

@@ -5,13 +5,14 @@ use Rattle.list_laws.proofs.Answers.{only_from}
 use Rattle.dataselect.specs.declared.query.DataQuery.{DataQuery}
 use Rattle.dataselect.specs.declared.query.Selection.{Selection}
 use Rattle.query_words.specs.DataGet.{AreOptions, IsDataGet, IsBackwards, IsGetFault, RefusesGet}
-use Rattle.query_words.specs.Gets.{LacksNone}
-use Rattle.query_words.specs.Rows.{Text, Named, data_names}
-use Rattle.query_words.specs.Parameters.{Parameter, parameters_of}
-use Rattle.query_words.specs.declared.fault.QueryFault.{QueryFault}
-use Rattle.query_words.specs.declared.fault.QueryFault.TheVariants.{OutOfMemory}
-use Rattle.query_words.proofs.Minimums.{one_minimum}
-use Rattle.query_words.proofs.OneGet.{one_selection, one_limit, some_one, not_backwards, no_fault, one_fault, refused_or_starved}
+use Rattle.query_parameters.specs.Gets.{LacksNone}
+use Rattle.query_parameters.specs.Rows.{Text, Named}
+use Rattle.query_words.specs.Tables.{data_names}
+use Rattle.query_parameters.specs.Parameters.{Parameter, parameters_of}
+use Rattle.query_parameters.specs.declared.fault.QueryFault.{QueryFault}
+use Rattle.query_parameters.specs.declared.fault.QueryFault.TheVariants.{OutOfMemory}
+use Rattle.query_parameters.proofs.Minimums.{one_minimum}
+use Rattle.query_parameters.proofs.OneGet.{one_selection, one_limit, some_one, not_backwards, no_fault, one_fault, refused_or_starved}
 
 -- the options and the selections make the query
 pub one_made : (rows : List Named) (ps : List Parameter) (q r : DataQuery) → AreOptions rows ps q → AreOptions rows ps r → q.selections ≡ r.selections → q ≡ r

@@ -3,15 +3,16 @@ use Rattle.std.proofs.Common.{◌≡◌, ◌⊎◌, [], Result, Ok, Err, MatchRe
 use Rattle.list_laws.specs.Only.{IsOnly}
 use Rattle.list_laws.proofs.Answers.{only_from}
 use Rattle.dataselect.specs.declared.query.DataQuery.{DataQuery}
-use Rattle.query_words.specs.Bodies.{parameters_in, parameter_lines, selection_lines}
+use Rattle.query_parameters.specs.Bodies.{parameters_in, parameter_lines, selection_lines}
 use Rattle.query_words.specs.DataPost.{IsDataPost, IsTurned, IsPostFault, RefusesPost}
-use Rattle.query_words.specs.Posts.{IsRightBody}
-use Rattle.query_words.specs.Rows.{Text, data_options}
-use Rattle.query_words.specs.declared.fault.QueryFault.{QueryFault}
-use Rattle.query_words.specs.declared.fault.QueryFault.TheVariants.{OutOfMemory}
+use Rattle.query_parameters.specs.Posts.{IsRightBody}
+use Rattle.query_parameters.specs.Rows.{Text}
+use Rattle.query_words.specs.Tables.{data_options}
+use Rattle.query_parameters.specs.declared.fault.QueryFault.{QueryFault}
+use Rattle.query_parameters.specs.declared.fault.QueryFault.TheVariants.{OutOfMemory}
 use Rattle.query_words.proofs.OneDataGet.{one_made}
-use Rattle.query_words.proofs.OnePost.{one_selections, no_fault, one_fault, refused_or_starved}
-use Rattle.query_words.proofs.SelectionSteps.{selections_taken}
+use Rattle.query_parameters.proofs.OnePost.{one_selections, no_fault, one_fault, refused_or_starved}
+use Rattle.query_parameters.proofs.SelectionSteps.{selections_taken}
 
 one_query : (body : Text) (q r : DataQuery) → IsDataPost body q → IsDataPost body r → q ≡ r
 one_query body q r h k = one_made data_options (parameters_in (parameter_lines body)) q r h.options k.options (one_selections (selection_lines body) q.selections r.selections h.selections_are k.selections_are)

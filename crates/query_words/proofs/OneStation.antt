@@ -1,44 +1,27 @@
 -- A query string or a body asks station for one query, or has one fault.
-use Rattle.std.proofs.Common.{◌≡◌, ◌⊎◌, inl, inr, ℕ, List, [], ◌∷◌, Option, Some, None, Result, Ok, Err, MatchResult, sym, ap, subst, ◌∙◌}
+use Rattle.std.proofs.Common.{◌≡◌, ◌⊎◌, inl, inr, List, [], ◌∷◌, Option, Result, Err, MatchResult, sym, ap, subst, ◌∙◌}
 use Rattle.list_laws.specs.Only.{IsOnly}
 use Rattle.list_laws.proofs.Answers.{only_from}
-use Rattle.exact_time.specs.declared.decimal.Decimal.{Decimal}
 use Rattle.exact_time.specs.declared.moment.Moment.{Moment}
-use Rattle.exact_time.specs.Decimals.{IsDecimal}
-use Rattle.exact_time.proofs.DecimalTexts.{only_decimal}
 use Rattle.dataselect.specs.declared.query.Selection.{Selection}
-use Rattle.query_words.specs.Bodies.{parameters_in, parameter_lines, selection_lines}
-use Rattle.query_words.specs.Gets.{IsWindowInOrder, LacksNone}
-use Rattle.query_words.specs.Parameters.{Parameter, parameters_of}
-use Rattle.query_words.specs.Places.{IsBound, AreBounds, IsAreaInOrder, AreStationOptions}
-use Rattle.query_words.specs.Posts.{IsRightBody}
-use Rattle.query_words.specs.Rows.{Text, Named, station_names, station_options}
+use Rattle.query_parameters.specs.Bodies.{parameters_in, parameter_lines, selection_lines}
+use Rattle.query_parameters.specs.Gets.{IsWindowInOrder, LacksNone}
+use Rattle.query_parameters.specs.Parameters.{Parameter, parameters_of}
+use Rattle.query_parameters.specs.Places.{IsAreaInOrder}
+use Rattle.query_words.specs.StationOptions.{AreStationOptions}
+use Rattle.query_parameters.specs.Posts.{IsRightBody}
+use Rattle.query_parameters.specs.Rows.{Text, Named}
+use Rattle.query_words.specs.Tables.{station_names, station_options}
 use Rattle.query_words.specs.StationGet.{IsStationGet, IsStationTurned, IsStationGetFault, RefusesStationGet}
 use Rattle.query_words.specs.StationPost.{IsStationPost, IsAreaTurned, IsStationPostFault, RefusesStationPost}
-use Rattle.query_words.specs.declared.fault.QueryFault.{QueryFault}
-use Rattle.query_words.specs.declared.fault.QueryFault.TheVariants.{OutOfMemory}
-use Rattle.query_words.specs.declared.station.Area.{Area}
+use Rattle.query_parameters.specs.declared.fault.QueryFault.{QueryFault}
+use Rattle.query_parameters.specs.declared.fault.QueryFault.TheVariants.{OutOfMemory}
+use Rattle.query_parameters.specs.declared.area.Area.{Area}
 use Rattle.query_words.specs.declared.station.StationQuery.{StationQuery}
-use Rattle.query_words.proofs.OneGet.{one_selection, one_limit, some_one, no_fault, one_fault, refused_or_starved}
-use Rattle.query_words.proofs.OnePost.{one_selections, no_fault as no_body_fault, one_fault as one_body_fault, refused_or_starved as body_refused_or_starved}
-use Rattle.query_words.proofs.SelectionSteps.{selections_taken}
-
-one_number : (text : Text) (a b : Decimal) → IsDecimal text a.millionths → IsDecimal text b.millionths → a ≡ b
-one_number text a b h k =
-    let e : Ok b ≡ Ok a = (only_decimal text (Ok a) h).only (Ok b) k in
-    cc
-
-one_bound : (most : ℕ) (given : Option Text) (a b : Option Decimal) → IsBound most given a → IsBound most given b → a ≡ b
-one_bound most None a b h k = h ∙ sym k
-one_bound most (Some text) a b h k = h.1 ∙ ap Some (one_number text h.0 k.0 h.2.decimal k.2.decimal) ∙ sym k.1
-
-pub one_area : (rows : List Named) (ps : List Parameter) (a b : Area) → AreBounds rows ps a → AreBounds rows ps b → a ≡ b
-one_area rows ps a b h k =
-    let south = one_bound _ _ a.latitude.least b.latitude.least h.south_is k.south_is in
-    let north = one_bound _ _ a.latitude.most b.latitude.most h.north_is k.north_is in
-    let west = one_bound _ _ a.longitude.least b.longitude.least h.west_is k.west_is in
-    let east = one_bound _ _ a.longitude.most b.longitude.most h.east_is k.east_is in
-    λ i. record { latitude = record { least = south i; most = north i }; longitude = record { least = west i; most = east i } }
+use Rattle.query_parameters.proofs.OneGet.{one_selection, one_limit, some_one, no_fault, one_fault, refused_or_starved}
+use Rattle.query_parameters.proofs.OnePost.{one_selections, no_fault as no_body_fault, one_fault as one_body_fault, refused_or_starved as body_refused_or_starved}
+use Rattle.query_parameters.proofs.SelectionSteps.{selections_taken}
+use Rattle.query_parameters.proofs.OnePlace.{one_area}
 
 -- the options and the selections make the query
 one_made : (rows : List Named) (ps : List Parameter) (q r : StationQuery) → AreStationOptions rows ps q → AreStationOptions rows ps r → q.selections ≡ r.selections → q ≡ r

@@ -1,70 +1,39 @@
 -- Every query string and every body asks station for one query, or has one fault.
-use Rattle.std.proofs.Common.{◌≡◌, ◌⊎◌, inl, inr, ℕ, ◌≤ℤ◌, List, [], ◌∷◌, Option, Some, None, Result, Ok, Err, length, refl, sym, subst, codes, arith}
-use Rattle.std.specs.Prelude.{int_le, ℤ}
-use Rattle.std.proofs.lemmas.Bool.{cases_Bool, cases_lt}
-use Rattle.std.proofs.lemmas.Int.{ints}
+use Rattle.std.proofs.Common.{◌≡◌, inl, inr, ℕ, List, [], ◌∷◌, Option, Result, Ok, Err, length, refl, sym, subst, codes}
+use Rattle.std.proofs.lemmas.Bool.{cases_lt}
 use Rattle.list_laws.specs.Only.{IsOnly}
-use Rattle.exact_time.specs.declared.decimal.Decimal.{Decimal}
 use Rattle.exact_time.specs.declared.moment.Moment.{Moment}
 use Rattle.channel_globs.specs.declared.nslc.Part.{Part}
 use Rattle.channel_globs.specs.declared.nslc.Part.TheVariants.{Network, Station, Location, Channel}
 use Rattle.channel_globs.specs.PatternText.{IsPatternList}
 use Rattle.dataselect.specs.declared.query.Selection.{Selection}
-use Rattle.query_words.specs.Bodies.{parameters_in, parameter_lines, selection_lines, AreSelections, TakesLine, RefusesLine, TakesSelection, RefusesSelection}
-use Rattle.query_words.specs.FirstRefusals.{AreTaken}
-use Rattle.query_words.specs.Gets.{text_or, IsWindowInOrder, AreCodes, AreLimits, IsRight, LacksNone}
-use Rattle.query_words.specs.Parameters.{Parameter, pairs_of, parameters_of, given, TakesParameter, RefusesParameter}
-use Rattle.query_words.specs.Places.{IsBound, IsRange, AreBounds, IsAreaInOrder, AreStationOptions}
-use Rattle.query_words.specs.Posts.{AreFew, IsRightFront}
-use Rattle.query_words.specs.Rows.{Text, kind_of, station_names, station_options}
+use Rattle.query_parameters.specs.Bodies.{parameters_in, parameter_lines, selection_lines, AreSelections, TakesLine, RefusesLine, TakesSelection, RefusesSelection}
+use Rattle.query_parameters.specs.FirstRefusals.{AreTaken}
+use Rattle.query_parameters.specs.Gets.{text_or, IsWindowInOrder, AreCodes, AreLimits, IsRight, LacksNone}
+use Rattle.query_parameters.specs.Parameters.{Parameter, pairs_of, parameters_of, given, TakesParameter, RefusesParameter}
+use Rattle.query_parameters.specs.Places.{AreBounds, IsAreaInOrder}
+use Rattle.query_words.specs.StationOptions.{AreStationOptions}
+use Rattle.query_parameters.specs.Posts.{AreFew, IsRightFront}
+use Rattle.query_parameters.specs.Rows.{Text, kind_of}
+use Rattle.query_words.specs.Tables.{station_names, station_options}
 use Rattle.query_words.specs.StationGet.{IsStationGet, IsStationTurned, IsStationGetFault}
 use Rattle.query_words.specs.StationPost.{IsStationPost, IsAreaTurned, IsStationPostFault}
-use Rattle.query_words.specs.Values.{CanRead, most_latitude, most_longitude}
-use Rattle.query_words.specs.declared.fault.QueryFault.{QueryFault}
-use Rattle.query_words.specs.declared.fault.QueryFault.TheVariants.{TooMany, Order, NoLine}
-use Rattle.query_words.specs.declared.rows.ValueKind.{ValueKind}
-use Rattle.query_words.specs.declared.rows.ValueKind.TheVariants as kind
-use Rattle.query_words.specs.declared.station.Area.{Area}
-use Rattle.query_words.specs.declared.station.Level.TheVariants as level
-use Rattle.query_words.specs.declared.station.Limits2.{Limits2}
+use Rattle.query_parameters.specs.Values.{CanRead}
+use Rattle.query_parameters.specs.declared.fault.QueryFault.{QueryFault}
+use Rattle.query_parameters.specs.declared.fault.QueryFault.TheVariants.{TooMany, Order, NoLine}
+use Rattle.query_parameters.specs.declared.rows.ValueKind.{ValueKind}
+use Rattle.query_parameters.specs.declared.rows.ValueKind.TheVariants as kind
+use Rattle.query_parameters.specs.declared.area.Area.{Area}
+use Rattle.query_parameters.specs.declared.level.Level.TheVariants as level
 use Rattle.query_words.specs.declared.station.StationQuery.{StationQuery}
-use Rattle.query_words.proofs.GetFound.{given_reads, default_reads, any_list, limit_given, no_nodata, in_time_or_backwards, wrong_answer}
-use Rattle.query_words.proofs.OneGet.{not_backwards}
-use Rattle.query_words.proofs.OneStation.{one_area, only_get, only_post}
-use Rattle.query_words.proofs.PostFound.{line_found, line_selects, selections_of, parameters_taken, some_or_nothing, wrong_front, wrong_rest}
-use Rattle.query_words.proofs.RefusalLaws.{taken_or_refused}
-use Rattle.query_words.proofs.ValuesFound.{parameter_found}
-
-le_or_not : (a b : ℤ) → (a ≤ℤ b) ⊎ (¬ (a ≤ℤ b))
-le_or_not a b = elim (cases_Bool (int_le a b)) [ inl low ↦ inl (grind (arith, ints)) | inr high ↦ inr (λ h. grind (arith, ints)) ]
-
-range_by : (least most : Option Decimal) → IsRange (record { least = least; most = most }) ⊎ (¬ (IsRange (record { least = least; most = most })))
-range_by None most = inl tt
-range_by (Some least) None = inl tt
-range_by (Some least) (Some most) = le_or_not least.millionths most.millionths
-
--- limits are in order, or they aren't
-range_or_not : (limits : Limits2) → IsRange limits ⊎ (¬ (IsRange limits))
-range_or_not limits = range_by limits.least limits.most
-
-area_or_not : (area : Area) → IsAreaInOrder area ⊎ (¬ (IsAreaInOrder area))
-area_or_not area =
-    elim (range_or_not area.latitude) [
-      | inr off ↦ inr (λ h. off h.latitude)
-      | inl latitude ↦ elim (range_or_not area.longitude) [
-        | inr off ↦ inr (λ h. off h.longitude)
-        | inl longitude ↦ inl (record { latitude = latitude; longitude = longitude })
-      ]
-    ]
-
--- the bound of a place that is given
-latitude_given : (given : Option Text) → ((text : Text) → given ≡ Some text → CanRead kind.Latitude text) → (bound : Option Decimal) × IsBound most_latitude given bound
-latitude_given None h = (None, refl)
-latitude_given (Some text) h = let is = h text refl in let n : Decimal = record { millionths = is.0; millionths_in = omega (arith, is.1.within) } in (Some n, (n, refl, is.1))
-
-longitude_given : (given : Option Text) → ((text : Text) → given ≡ Some text → CanRead kind.Longitude text) → (bound : Option Decimal) × IsBound most_longitude given bound
-longitude_given None h = (None, refl)
-longitude_given (Some text) h = let is = h text refl in let n : Decimal = record { millionths = is.0; millionths_in = omega (arith, is.1.within) } in (Some n, (n, refl, is.1))
+use Rattle.query_parameters.proofs.GivenFound.{given_reads, default_reads, any_list, limit_given, no_nodata, in_time_or_backwards, wrong_answer}
+use Rattle.query_parameters.proofs.OneGet.{not_backwards}
+use Rattle.query_parameters.proofs.OnePlace.{one_area}
+use Rattle.query_words.proofs.OneStation.{only_get, only_post}
+use Rattle.query_parameters.proofs.LinesFound.{line_found, line_selects, selections_of, parameters_taken, some_or_nothing, wrong_front, wrong_rest}
+use Rattle.query_parameters.proofs.RefusalLaws.{taken_or_refused}
+use Rattle.query_parameters.proofs.ValuesFound.{parameter_found}
+use Rattle.query_parameters.proofs.PlacesFound.{area_or_not, latitude_given, longitude_given}
 
 -- what right parameters of a query string say
 module _ (ps : List Parameter) (taken : AreTaken (TakesParameter station_names) [] ps) where

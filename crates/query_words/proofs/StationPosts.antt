@@ -1,18 +1,19 @@
 -- The parts of a body that asks for stations.
 use Rattle.std.proofs.Common.{◌<◌, List, Option, length, sym, subst}
 use Rattle.dataselect.specs.declared.query.Selection.{Selection}
-use Rattle.query_words.specs.Bodies.{parameter_lines, selection_lines, parameters_in, AreSelections}
-use Rattle.query_words.specs.Extracts.{AreStationWords, IsStationMade}
-use Rattle.query_words.specs.Places.{IsAreaInOrder}
-use Rattle.query_words.specs.Posts.{IsRightFront}
-use Rattle.query_words.specs.Rows.{Text, station_options}
+use Rattle.query_parameters.specs.Bodies.{parameter_lines, selection_lines, parameters_in, AreSelections}
+use Rattle.query_words.specs.Options.{AreStationWords, IsStationMade}
+use Rattle.query_parameters.specs.Places.{IsAreaInOrder}
+use Rattle.query_parameters.specs.Posts.{IsRightFront}
+use Rattle.query_parameters.specs.Rows.{Text}
+use Rattle.query_words.specs.Tables.{station_options}
 use Rattle.query_words.specs.StationPost.{IsStationPost, IsAreaTurned}
-use Rattle.query_words.specs.Words.{AreHeld}
+use Rattle.query_parameters.specs.Words.{AreHeld}
 use Rattle.query_words.specs.declared.places.StationOptions.{StationOptions}
-use Rattle.query_words.specs.declared.station.Area.{Area}
+use Rattle.query_parameters.specs.declared.area.Area.{Area}
 use Rattle.query_words.specs.declared.station.StationQuery.{StationQuery}
-use Rattle.query_words.specs.declared.words.ParameterValue.{ParameterValue}
-use Rattle.query_words.proofs.OneStation.{one_area}
+use Rattle.query_parameters.specs.declared.words.ParameterValue.{ParameterValue}
+use Rattle.query_parameters.proofs.OnePlace.{one_area}
 use Rattle.query_words.proofs.StationSteps.{bounds_posted, options_posted}
 
 module _ (body : Text) (words : List (Option ParameterValue)) (held : AreHeld station_options (parameters_in (parameter_lines body)) words) (o : StationOptions) (options : AreStationWords words 0 o) where

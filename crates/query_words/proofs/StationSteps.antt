@@ -1,70 +1,27 @@
 -- What the words of a query for stations give is what is said under their names.
-use Rattle.std.proofs.Common.{◌≡◌, ◌⊎◌, ◌≤◌, ◌+◌, true, false, List, [], ◌∷◌, Option, Some, None, length, get_or, refl, sym, ap, subst, ◌∙◌, codes, arith}
+use Rattle.std.proofs.Common.{◌≡◌, ◌⊎◌, ◌≤◌, ◌+◌, true, false, List, [], ◌∷◌, Option, Some, None, length, get_or, sym, ap, subst, ◌∙◌, codes, arith}
 use Rattle.exact_time.specs.declared.decimal.Decimal.{Decimal}
 use Rattle.exact_time.specs.declared.moment.Moment.{Moment}
 use Rattle.channel_globs.specs.declared.nslc.Part.TheVariants.{Network, Station, Location, Channel}
 use Rattle.dataselect.specs.declared.query.Selection.{Selection}
-use Rattle.query_words.specs.Extracts.{limit_word, number_word, level_word, AreAreaWords, AreStationWords, IsStationMade, AreLists, is_backwards}
-use Rattle.query_words.specs.Gets.{text_or, said, IsLimit, IsWindowInOrder, AreCodes, AreLimits}
-use Rattle.query_words.specs.Parameters.{Parameter, pairs_of, parameters_of}
-use Rattle.query_words.specs.Places.{IsBound, AreBounds, IsAreaInOrder, AreStationOptions}
-use Rattle.query_words.specs.Rows.{Text, station_names, station_options}
+use Rattle.query_parameters.specs.Extracts.{limit_word, AreAreaWords, AreLists, is_backwards}
+use Rattle.query_words.specs.Options.{AreStationWords, IsStationMade}
+use Rattle.query_parameters.specs.Gets.{said, IsLimit, IsWindowInOrder, AreCodes, AreLimits}
+use Rattle.query_parameters.specs.Parameters.{Parameter, pairs_of, parameters_of}
+use Rattle.query_parameters.specs.Places.{IsBound, AreBounds, IsAreaInOrder}
+use Rattle.query_words.specs.StationOptions.{AreStationOptions}
+use Rattle.query_parameters.specs.Rows.{Text}
+use Rattle.query_words.specs.Tables.{station_names, station_options}
 use Rattle.query_words.specs.StationGet.{IsStationGet, IsStationTurned}
-use Rattle.query_words.specs.Values.{level_of, most_latitude, most_longitude}
-use Rattle.query_words.specs.Words.{IsParameterValue, IsHeld, AreHeld, HasReadParameters}
+use Rattle.query_parameters.specs.Values.{most_latitude, most_longitude}
+use Rattle.query_parameters.specs.Words.{AreHeld, HasReadParameters}
 use Rattle.query_words.specs.declared.places.StationOptions.{StationOptions}
-use Rattle.query_words.specs.declared.rows.ValueKind.TheVariants as kind
-use Rattle.query_words.specs.declared.station.Area.{Area}
+use Rattle.query_parameters.specs.declared.area.Area.{Area}
 use Rattle.query_words.specs.declared.station.StationQuery.{StationQuery}
-use Rattle.query_words.specs.declared.words.ParameterValue.{ParameterValue}
-use Rattle.query_words.specs.declared.words.ParameterValue.TheVariants as word
-use Rattle.query_words.proofs.OneGet.{not_backwards}
-use Rattle.query_words.proofs.SaidWords.{limit_said, list_said, nodata_said, in_time, backwards}
-
-latitude_text : (text : Text) (w : ParameterValue) → IsParameterValue kind.Latitude text w → IsBound most_latitude (Some text) (number_word (Some w))
-latitude_text text (word.Number n) h = (n, refl, h)
-latitude_text text (word.Patterns list) h = let e = h.1 in cc
-latitude_text text (word.Time moment) h = let e = h.0 in cc
-latitude_text text (word.Nodata nodata) h = let e = h.0 in cc
-latitude_text text (word.Quality quality) h = let e = h.0 in cc
-latitude_text text (word.Micros micros) h = let e = h.0 in cc
-latitude_text text (word.Flag flag) h = let e = h.0 in cc
-latitude_text text (word.Level level) h = let e = h.0 in cc
-latitude_text text word.Nothing h = absurd h
-
-latitude_said : (given : Option Text) (held : Option ParameterValue) → IsHeld kind.Latitude given held → IsBound most_latitude given (number_word held)
-latitude_said None held h = ap number_word h
-latitude_said (Some text) held h = subst (λ (o : Option ParameterValue). IsBound most_latitude (Some text) (number_word o)) (sym h.1) (latitude_text text h.0 h.2)
-
-longitude_text : (text : Text) (w : ParameterValue) → IsParameterValue kind.Longitude text w → IsBound most_longitude (Some text) (number_word (Some w))
-longitude_text text (word.Number n) h = (n, refl, h)
-longitude_text text (word.Patterns list) h = let e = h.1 in cc
-longitude_text text (word.Time moment) h = let e = h.0 in cc
-longitude_text text (word.Nodata nodata) h = let e = h.0 in cc
-longitude_text text (word.Quality quality) h = let e = h.0 in cc
-longitude_text text (word.Micros micros) h = let e = h.0 in cc
-longitude_text text (word.Flag flag) h = let e = h.0 in cc
-longitude_text text (word.Level level) h = let e = h.0 in cc
-longitude_text text word.Nothing h = absurd h
-
-longitude_said : (given : Option Text) (held : Option ParameterValue) → IsHeld kind.Longitude given held → IsBound most_longitude given (number_word held)
-longitude_said None held h = ap number_word h
-longitude_said (Some text) held h = subst (λ (o : Option ParameterValue). IsBound most_longitude (Some text) (number_word o)) (sym h.1) (longitude_text text h.0 h.2)
-
-level_text : (text : Text) (w : ParameterValue) → IsParameterValue kind.Level text w → level_of text ≡ Some (level_word (Some w))
-level_text text (word.Level level) h = h.1
-level_text text (word.Patterns list) h = let e = h.1 in cc
-level_text text (word.Time moment) h = let e = h.0 in cc
-level_text text (word.Nodata nodata) h = let e = h.0 in cc
-level_text text (word.Quality quality) h = let e = h.0 in cc
-level_text text (word.Micros micros) h = let e = h.0 in cc
-level_text text (word.Flag flag) h = let e = h.0 in cc
-level_text text (word.Number n) h = absurd h
-level_text text word.Nothing h = absurd h
-
-level_said : (given : Option Text) (held : Option ParameterValue) → IsHeld kind.Level given held → level_of (text_or (codes "station") given) ≡ Some (level_word held)
-level_said None held h = ap (λ (o : Option ParameterValue). Some (level_word o)) (sym h)
-level_said (Some text) held h = level_text text h.0 h.2 ∙ ap (λ (o : Option ParameterValue). Some (level_word o)) (sym h.1)
+use Rattle.query_parameters.specs.declared.words.ParameterValue.{ParameterValue}
+use Rattle.query_parameters.proofs.OneGet.{not_backwards}
+use Rattle.query_parameters.proofs.Said.{limit_said, list_said, nodata_said, in_time, backwards}
+use Rattle.query_parameters.proofs.PlacesSaid.{latitude_said, level_said, longitude_said}
 
 -- of a query string
 module _ (ps : List Parameter) (words : List (Option ParameterValue)) (held : AreHeld station_names ps words) where

@@ -4,11 +4,12 @@ use Rattle.std.specs.Prelude.{◌≡◌, ◌<ℤ◌, List, [], ◌∷◌, Some, 
 use Rattle.exact_time.specs.declared.moment.Moment.{Moment}
 use Rattle.dataselect.specs.declared.query.Selection.{Selection}
 use Rattle.dataselect.specs.declared.query.DataQuery.{DataQuery}
-use Rattle.query_words.specs.Gets.{said_or, IsWindowInOrder, AreCodes, AreLimits, IsRight, LacksNone, IsFaultBy, RefusesBy}
-use Rattle.query_words.specs.Rows.{Text, Named, data_names}
-use Rattle.query_words.specs.Values.{quality_of, nodata_of, flag_of, IsMinimum}
-use Rattle.query_words.specs.Parameters.{Parameter, parameters_of}
-use Rattle.query_words.specs.declared.fault.QueryFault.{QueryFault}
+use Rattle.query_parameters.specs.Gets.{said_or, IsWindowInOrder, AreCodes, AreLimits, IsRight, LacksNone, IsFaultBy, RefusesBy}
+use Rattle.query_parameters.specs.Rows.{Text, Named}
+use Rattle.query_words.specs.Tables.{data_names}
+use Rattle.query_parameters.specs.Values.{quality_of, nodata_of, flag_of, IsMinimum}
+use Rattle.query_parameters.specs.Parameters.{Parameter, parameters_of}
+use Rattle.query_parameters.specs.declared.fault.QueryFault.{QueryFault}
 
 -- the options of the query, each by its default where it isn't said; the one format is miniSEED
 pub record AreOptions (rows : List Named) (ps : List Parameter) (q : DataQuery) : Type 0 where

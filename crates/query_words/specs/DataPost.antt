@@ -2,11 +2,12 @@
 -- POST).
 use Rattle.std.specs.Prelude.{◌<◌, length}
 use Rattle.dataselect.specs.declared.query.DataQuery.{DataQuery}
-use Rattle.query_words.specs.Bodies.{parameter_lines, selection_lines, parameters_in, AreSelections}
+use Rattle.query_parameters.specs.Bodies.{parameter_lines, selection_lines, parameters_in, AreSelections}
 use Rattle.query_words.specs.DataGet.{AreOptions}
-use Rattle.query_words.specs.Posts.{IsRightFront, IsBodyFaultBy, RefusesBodyBy}
-use Rattle.query_words.specs.Rows.{Text, data_options}
-use Rattle.query_words.specs.declared.fault.QueryFault.{QueryFault}
+use Rattle.query_parameters.specs.Posts.{IsRightFront, IsBodyFaultBy, RefusesBodyBy}
+use Rattle.query_parameters.specs.Rows.{Text}
+use Rattle.query_words.specs.Tables.{data_options}
+use Rattle.query_parameters.specs.declared.fault.QueryFault.{QueryFault}
 
 -- the body asks for this: its selections and options
 pub record IsDataPost (body : Text) (q : DataQuery) : Type 0 where

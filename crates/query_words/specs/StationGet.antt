@@ -2,12 +2,14 @@
 use Rattle.std.specs.Prelude.{◌≡◌, ◌⊎◌, [], ◌∷◌, Option}
 use Rattle.exact_time.specs.declared.moment.Moment.{Moment}
 use Rattle.dataselect.specs.declared.query.Selection.{Selection}
-use Rattle.query_words.specs.Gets.{IsWindowInOrder, AreCodes, AreLimits, IsRight, LacksNone, IsFaultBy, RefusesBy}
-use Rattle.query_words.specs.Parameters.{parameters_of}
-use Rattle.query_words.specs.Places.{AreBounds, IsAreaInOrder, AreStationOptions}
-use Rattle.query_words.specs.Rows.{Text, station_names}
-use Rattle.query_words.specs.declared.fault.QueryFault.{QueryFault}
-use Rattle.query_words.specs.declared.station.Area.{Area}
+use Rattle.query_parameters.specs.Gets.{IsWindowInOrder, AreCodes, AreLimits, IsRight, LacksNone, IsFaultBy, RefusesBy}
+use Rattle.query_parameters.specs.Parameters.{parameters_of}
+use Rattle.query_parameters.specs.Places.{AreBounds, IsAreaInOrder}
+use Rattle.query_words.specs.StationOptions.{AreStationOptions}
+use Rattle.query_parameters.specs.Rows.{Text}
+use Rattle.query_words.specs.Tables.{station_names}
+use Rattle.query_parameters.specs.declared.fault.QueryFault.{QueryFault}
+use Rattle.query_parameters.specs.declared.area.Area.{Area}
 use Rattle.query_words.specs.declared.station.StationQuery.{StationQuery}
 
 -- the query string asks for this: one selection and the options, with limits that are in order

@@ -1,11 +1,13 @@
 -- What a body asks of station, and its faults (FDSN Web Service Specifications 1.2, station, POST).
 use Rattle.std.specs.Prelude.{◌<◌, length}
-use Rattle.query_words.specs.Bodies.{parameter_lines, selection_lines, parameters_in, AreSelections}
-use Rattle.query_words.specs.Places.{AreBounds, IsAreaInOrder, AreStationOptions}
-use Rattle.query_words.specs.Posts.{IsRightFront, IsBodyFaultBy, RefusesBodyBy}
-use Rattle.query_words.specs.Rows.{Text, station_options}
-use Rattle.query_words.specs.declared.fault.QueryFault.{QueryFault}
-use Rattle.query_words.specs.declared.station.Area.{Area}
+use Rattle.query_parameters.specs.Bodies.{parameter_lines, selection_lines, parameters_in, AreSelections}
+use Rattle.query_parameters.specs.Places.{AreBounds, IsAreaInOrder}
+use Rattle.query_words.specs.StationOptions.{AreStationOptions}
+use Rattle.query_parameters.specs.Posts.{IsRightFront, IsBodyFaultBy, RefusesBodyBy}
+use Rattle.query_parameters.specs.Rows.{Text}
+use Rattle.query_words.specs.Tables.{station_options}
+use Rattle.query_parameters.specs.declared.fault.QueryFault.{QueryFault}
+use Rattle.query_parameters.specs.declared.area.Area.{Area}
 use Rattle.query_words.specs.declared.station.StationQuery.{StationQuery}
 
 -- the body asks for this: its selections and options, with limits that are in order

@@ -1,14 +1,21 @@
 //! What the definitions of queries say of every text.
-ghost use Rattle.std.specs.Prelude.{Result};
+ghost use Rattle.std.specs.Prelude.{Result, ℕ};
 ghost use Rattle.list_laws.specs.Only.{IsOnly};
 ghost use Rattle.dataselect.specs.declared.query.DataQuery.{DataQuery};
 ghost use Rattle.query_words.specs.DataGet.{IsDataGet, IsGetFault};
 ghost use Rattle.query_words.specs.DataPost.{IsDataPost, IsPostFault};
-ghost use Rattle.query_words.specs.Rows.{Text};
+ghost use Rattle.query_parameters.specs.Rows.{Text};
+ghost use Rattle.query_words.specs.AvailGet.{IsAvailGet, IsAvailGetFault};
+ghost use Rattle.query_words.specs.AvailPost.{IsAvailPost, IsAvailPostFault};
+ghost use Rattle.query_words.specs.declared.avail.AvailMethod.{AvailMethod};
+ghost use Rattle.query_words.specs.declared.avail.AvailQuery.{AvailQuery};
+ghost use Rattle.query_words.specs.EventGet.{IsEventGet, IsEventGetFault};
+ghost use Rattle.query_words.specs.FeedGet.{IsFeedGet, IsFeedGetFault};
+ghost use Rattle.query_words.specs.declared.event.EventQuery.{EventQuery};
 ghost use Rattle.query_words.specs.StationGet.{IsStationGet, IsStationGetFault};
 ghost use Rattle.query_words.specs.StationPost.{IsStationPost, IsStationPostFault};
 ghost use Rattle.query_words.specs.declared.station.StationQuery.{StationQuery};
-ghost use Rattle.query_words.specs.declared.fault.QueryFault.{QueryFault};
+ghost use Rattle.query_parameters.specs.declared.fault.QueryFault.{QueryFault};
 
 /// Every query string asks for exactly one query, or has exactly one fault.
 pub fn a_query_string_is_one_query_or_one_fault()
@@ -28,4 +35,24 @@ pub fn a_station_query_string_is_one_query_or_one_fault()
 /// Every body asks station for exactly one query, or has exactly one fault.
 pub fn a_station_body_is_one_query_or_one_fault()
     ensures { (text : Text) → (answer : Result StationQuery QueryFault) × IsOnly (IsStationPost text) (IsStationPostFault text) answer }
+{}
+
+/// Every query string asks event for exactly one query, or has exactly one fault.
+pub fn a_query_string_for_events_is_one_query_or_one_fault()
+    ensures { (text : Text) → (answer : Result EventQuery QueryFault) × IsOnly (IsEventGet text) (IsEventGetFault text) answer }
+{}
+
+/// Every query string names exactly one entry of the feed, or has exactly one fault.
+pub fn a_query_string_for_the_feed_is_one_number_or_one_fault()
+    ensures { (text : Text) → (answer : Result ℕ QueryFault) × IsOnly (IsFeedGet text) (IsFeedGetFault text) answer }
+{}
+
+/// Every query string asks a method of availability for exactly one query, or has exactly one fault.
+pub fn a_query_string_for_availability_is_one_query_or_one_fault()
+    ensures { (method : AvailMethod) (text : Text) → (answer : Result AvailQuery QueryFault) × IsOnly (IsAvailGet method text) (IsAvailGetFault method text) answer }
+{}
+
+/// Every body asks a method of availability for exactly one query, or has exactly one fault.
+pub fn a_body_for_availability_is_one_query_or_one_fault()
+    ensures { (method : AvailMethod) (text : Text) → (answer : Result AvailQuery QueryFault) × IsOnly (IsAvailPost method text) (IsAvailPostFault method text) answer }
 {}

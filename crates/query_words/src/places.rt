@@ -1,13 +1,11 @@
 //! The options of station that its words give.
 ghost use Rattle.std.specs.Prelude.{◌≡◌, ◌+◌, ◌≤◌, ◌<◌, ◌↔◌, IsTrue, length};
-ghost use Rattle.query_words.specs.Extracts.{number_word, level_word, AreAreaWords, AreStationWords, IsStationMade};
-ghost use Rattle.query_words.specs.Places.{IsRange, IsAreaInOrder};
+ghost use Rattle.query_words.specs.Options.{AreStationWords, IsStationMade};
 
-use crate::asked::{limit_in, nodata_in};
-use crate::station::{Area, Level, Limits2, StationQuery};
-use crate::words::ParameterValue;
+use crate::station::StationQuery;
 use dataselect::{Nodata, Selection};
-use exact_time::{Decimal, Many, Moment};
+use exact_time::{Many, Moment};
+use query_parameters::{Area, Level, ParameterValue, area_in, level_in, limit_in, nodata_in};
 
 /// The options of a query for stations.
 #[derive(Clone, Copy, Debug)]
@@ -19,41 +17,6 @@ pub struct StationOptions {
     pub end_after: Option<Moment>,
     pub area: Area,
     pub level: Level,
-}
-
-fn number_in(word: &Option<ParameterValue>) -> Option<Decimal>
-    ensures { result ≡ number_word word.now }
-{
-    match word {
-        Some(ParameterValue::Number(number)) => Some(*number),
-        _ => None,
-    }
-}
-
-fn level_in(word: &Option<ParameterValue>) -> Level
-    ensures { result ≡ level_word word.now }
-{
-    match word {
-        Some(ParameterValue::Level(level)) => *level,
-        _ => Level::Station,
-    }
-}
-
-// The place of four words from that place on.
-fn area_in(words: &[Option<ParameterValue>], first: usize) -> Area
-    requires { first + 4 ≤ length words.now }
-    ensures { AreAreaWords words.now first result }
-{
-    Area {
-        latitude: Limits2 {
-            least: number_in(&words[first]),
-            most: number_in(&words[first + 1]),
-        },
-        longitude: Limits2 {
-            least: number_in(&words[first + 2]),
-            most: number_in(&words[first + 3]),
-        },
-    }
 }
 
 /// The options of the words from that place on.
@@ -70,26 +33,6 @@ pub fn station_options_in(words: &[Option<ParameterValue>], first: usize) -> Sta
         area: area_in(words, first + 5),
         level: level_in(&words[first + 9]),
     }
-}
-
-// Whether the greatest isn't below the least.
-fn is_range(limits: Limits2) -> bool
-    ensures { IsTrue result ↔ IsRange limits }
-{
-    match limits.least {
-        None => true,
-        Some(least) => match limits.most {
-            None => true,
-            Some(most) => least.millionths <= most.millionths,
-        },
-    }
-}
-
-/// Whether no least limit is above its greatest.
-pub fn is_area_in_order(area: Area) -> bool
-    ensures { IsTrue result ↔ IsAreaInOrder area }
-{
-    is_range(area.latitude) && is_range(area.longitude)
 }
 
 /// The query of some selections, with these options.

@@ -3,14 +3,10 @@ ghost use Rattle.std.specs.Prelude.{◌⊎◌, IfOk, IfErr, IsErrOf};
 ghost use Rattle.list_laws.specs.Only.{IsOnly};
 ghost use Rattle.query_words.specs.StationPost.{IsStationPost, IsStationPostFault, RefusesStationPost};
 
-use crate::fault::QueryFault;
-use crate::front::read_front;
-use crate::lines::{body_lines, front_len, line_count};
-use crate::places::{is_area_in_order, station_options_in, station_query_of};
-use crate::post::{MOST_PARAMETERS, MOST_SELECTIONS};
-use crate::rows::{OPTIONS, station_names};
-use crate::selections::read_selections;
+use crate::places::{station_options_in, station_query_of};
 use crate::station::StationQuery;
+use crate::tables::{OPTIONS, station_names};
+use query_parameters::{QueryFault, is_area_in_order, read_body};
 use std::alloc::Global;
 
 /// The query for stations that a body spells (FDSN Web Service Specifications 1.2, station, POST). The first
@@ -21,22 +17,13 @@ pub fn station_post(alloc: Global, body: &[u8]) -> Result<StationQuery, QueryFau
     ensures exact { IsErrOf result QueryFault.OutOfMemory
         ⊎ IsOnly (IsStationPost body.now) (IsStationPostFault body.now) result }
 {
-    if line_count(body) > MOST_PARAMETERS + MOST_SELECTIONS {
-        return Err(QueryFault::TooMany);
-    }
-    let lines = body_lines(alloc, body)?;
-    let front = front_len(&lines);
-    if front > MOST_PARAMETERS || lines.len() - front > MOST_SELECTIONS {
-        return Err(QueryFault::TooMany);
-    }
-    let words = read_front(alloc, &station_names()[OPTIONS..], &lines[..front])?;
-    let selections = read_selections(alloc, &lines[front..])?;
-    let options = station_options_in(&words, 0);
+    let read = read_body(alloc, &station_names()[OPTIONS..], body)?;
+    let options = station_options_in(&read.words, 0);
     if !is_area_in_order(options.area) {
         return Err(QueryFault::Order);
     }
-    if selections.is_empty() {
+    if read.selections.is_empty() {
         return Err(QueryFault::NoLine);
     }
-    Ok(station_query_of(selections, options))
+    Ok(station_query_of(read.selections, options))
 }

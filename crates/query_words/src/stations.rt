@@ -3,14 +3,13 @@ ghost use Rattle.std.specs.Prelude.{◌⊎◌, IfOk, IfErr, IsErrOf};
 ghost use Rattle.list_laws.specs.Only.{IsOnly};
 ghost use Rattle.query_words.specs.StationGet.{IsStationGet, IsStationGetFault, RefusesStationGet};
 
-use crate::asked::{is_backwards, limit_in, selection_in};
-use crate::fault::QueryFault;
-use crate::get::has_too_many;
-use crate::places::{is_area_in_order, station_options_in, station_query_of};
-use crate::rows::{CODES, END, OPTIONS, START, station_names};
+use crate::places::{station_options_in, station_query_of};
 use crate::station::StationQuery;
-use crate::words::read_words;
+use crate::tables::{CODES, END, OPTIONS, START, station_names};
 use exact_time::Many;
+use query_parameters::{
+    QueryFault, has_too_many, is_area_in_order, is_backwards, limit_in, read_words, selection_in,
+};
 use std::alloc::Global;
 
 /// The query for stations that a query string spells (FDSN Web Service Specifications 1.2, station). Names

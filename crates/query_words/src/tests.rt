@@ -1,11 +1,14 @@
 //! Worked rows, and each public call with ample memory.
+mod availability;
+
 use crate::{
-    Area, Level, QueryFault, StationQuery, data_get, data_post, read_flag, read_minimum,
-    read_nodata, read_quality, read_whole, station_get, station_post,
+    Area, EventOrder, EventQuery, Level, QueryFault, StationQuery, data_get, data_post, event_get,
+    feed_get, read_flag, read_minimum, read_nodata, read_quality, read_whole, station_get,
+    station_post,
 };
 use channel_globs::Code;
 use dataselect::{DataQuery, Nodata};
-use exact_time::{Decimal, Moment};
+use exact_time::{Decimal, Moment, Text};
 use mseed_header::Quality;
 use std::alloc::Global;
 use std::process::Abort;
@@ -342,5 +345,109 @@ fn writes_faults(rt: HostRuntime) -> Result<(), Fail> {
         format!(in alloc; "{}", QueryFault::OutOfMemory)?.as_str(),
         "out of memory"
     );
+    Ok(())
+}
+
+fn event_fault(alloc: Global, query: &str) -> Option<QueryFault> {
+    match event_get(alloc, query.as_bytes()) {
+        Ok(_) => None,
+        Err(fault) => Some(fault),
+    }
+}
+
+fn is_text(text: &Option<Text>, wanted: &str) -> bool {
+    match text {
+        Some(text) => text.as_str() == wanted,
+        None => false,
+    }
+}
+
+fn has_our_limits(query: &EventQuery) -> bool {
+    is_at(query.depth.least, 0)
+        && is_at(query.depth.most, 33_500_000)
+        && is_at(query.magnitude.least, -1_000_000)
+        && query.magnitude.most.is_none()
+        && is_our_area(query.area)
+}
+
+fn has_our_texts(query: &EventQuery) -> bool {
+    is_text(&query.magnitude_kind, "Mww")
+        && is_text(&query.id, "us/7000 a")
+        && is_text(&query.catalog, "")
+        && query.contributor.is_none()
+}
+
+#[test]
+fn reads_a_query_for_events(rt: HostRuntime) -> Result<(), Fail> {
+    let text =
+        "start=2024-01-01&mindepth=0&maxdepth=33.5&minmag=-1&magtype=Mww&EventID=us%2F7000+a&catalog=&orderby=magnitude-asc&limit=9999999999999999999&offset=2&minlat=-10.5&maxlat=60&maxlon=180&format=text&includearrivals=false&nodata=404";
+    let query = event_get(rt.alloc(), text.as_bytes())?;
+    assert!(&rt; query.start == Some(moment("2024-01-01")?) && query.end.is_none());
+    assert!(&rt; has_our_limits(&query));
+    assert!(&rt; has_our_texts(&query));
+    assert!(&rt; query.order == EventOrder::MagnitudeUp && query.nodata == Nodata::NotFound);
+    assert!(&rt; query.limit == Some(9_999_999_999_999_999_999) && query.offset == 2);
+    Ok(())
+}
+
+#[test]
+fn asks_for_all_events_by_default(rt: HostRuntime) -> Result<(), Fail> {
+    let query = event_get(rt.alloc(), b"")?;
+    assert!(&rt; query.order == EventOrder::TimeDown && query.nodata == Nodata::Quiet);
+    assert!(&rt; query.limit.is_none() && query.offset == 1 && query.id.is_none());
+    assert!(&rt; is_everywhere(query.area) && query.magnitude.least.is_none());
+    Ok(())
+}
+
+#[test]
+fn tells_the_first_fault_of_a_query_for_events(rt: HostRuntime) -> Result<(), Fail> {
+    let alloc = rt.alloc();
+    let rows = [
+        ("format=xml", QueryFault::OutOfScope(1)),
+        ("offset=0", QueryFault::Value(1)),
+        ("limit=0", QueryFault::Value(1)),
+        ("limit=none", QueryFault::Value(1)),
+        ("limit=10000000000000000000", QueryFault::Value(1)),
+        ("orderby=Time", QueryFault::Value(1)),
+        ("net=IU", QueryFault::Unknown(1)),
+        ("minmag=5&minmagnitude=6", QueryFault::Repeated(2)),
+        ("minmag=5&eventtype=quake", QueryFault::OutOfScope(2)),
+        ("includeallorigins=1", QueryFault::OutOfScope(1)),
+        ("lat=5", QueryFault::OutOfScope(1)),
+        ("minmag=6&maxmag=5.9", QueryFault::Order),
+        ("mindepth=6&maxdepth=5", QueryFault::Order),
+        ("minlat=6&maxlat=5", QueryFault::Order),
+        ("start=2024-02-02&end=2024-02-01", QueryFault::Order),
+        ("minmag=6&maxmag=5&catalog=%FF", QueryFault::Value(3)),
+    ];
+    for (query, fault) in rows {
+        assert_eq!(&rt; event_fault(alloc, query), Some(fault), "{query}");
+    }
+    assert_eq!(&rt; event_fault(alloc, "minmag=5&maxmag=5"), None);
+    Ok(())
+}
+
+#[test]
+fn reads_the_number_of_an_entry(rt: HostRuntime) -> Result<(), Fail> {
+    let alloc = rt.alloc();
+    for (query, number) in [
+        ("seq=1", 1),
+        ("SEQ=1000000000000000000", 1_000_000_000_000_000_000),
+    ] {
+        assert_eq!(&rt; feed_get(alloc, query.as_bytes())?, number, "{query}");
+    }
+    for (query, fault) in [
+        ("seq=0", QueryFault::Value(1)),
+        ("seq=1000000000000000001", QueryFault::Value(1)),
+        ("seq=", QueryFault::Value(1)),
+        ("", QueryFault::Value(0)),
+        ("seq=1&seq=2", QueryFault::Repeated(2)),
+        ("start=2024-01-01", QueryFault::Unknown(1)),
+    ] {
+        match feed_get(alloc, query.as_bytes()) {
+            Ok(_) => return Err("a number")?,
+            Err(found) => assert_eq!(&rt; found, fault, "{query}"),
+        }
+    }
     Ok(())
 }

@@ -3,8 +3,8 @@ use Rattle.std.proofs.Common.{◌≡◌, Bool, true, false, ◌||◌, ◌&&◌, 
 use Rattle.std.specs.List.{AllByRecursion}
 use Rattle.std.specs.Borrow.{Bor}
 use Rattle.std.proofs.lemmas.Bool.{and_parts, true≢false}
-use Rattle.query_words.specs.declared.station.Level.{Level}
-use Rattle.query_words.specs.declared.station.Level.TheVariants as level
+use Rattle.query_parameters.specs.declared.level.Level.{Level}
+use Rattle.query_parameters.specs.declared.level.Level.TheVariants as level
 use Rattle.query_words.specs.declared.station.StationQuery.{StationQuery}
 use Rattle.epochs.specs.declared.kinds.LineKind.TheVariants.{Net, Sta, Cha}
 use Rattle.epochs.specs.declared.line.Line.{Line}

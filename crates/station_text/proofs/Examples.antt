@@ -6,7 +6,7 @@ use Rattle.epochs.specs.Fields.{code, words, time, end, number, optional}
 use Rattle.epochs.specs.Lines.{LineValues, line_values}
 use Rattle.station_text.specs.Windows.{ends_before, ends_after}
 use Rattle.station_text.specs.Asked.{is_every, station_codes, total_stations}
-use Rattle.station_text.specs.Texts.{code_text, barred, column_text}
+use Rattle.line_columns.specs.Texts.{code_text, barred, column_text}
 
 -- a network from 100 on, two epochs of one of its stations, one of another before it, and a channel
 abbrev network : LineValues

@@ -1,4 +1,3 @@
 pub mod Asking
 pub mod Examples
 pub mod Inside
-pub mod Printable

@@ -5,9 +5,9 @@ use Rattle.std.specs.Str.{bytes_eq}
 use Rattle.list_laws.specs.InOrder.{in_order}
 use Rattle.channel_globs.specs.Matching.{star, is_match_any}
 use Rattle.dataselect.specs.declared.query.Selection.{Selection}
-use Rattle.query_words.specs.declared.station.Area.{Area}
-use Rattle.query_words.specs.declared.station.Level.{Level}
-use Rattle.query_words.specs.declared.station.Level.TheVariants as level
+use Rattle.query_parameters.specs.declared.area.Area.{Area}
+use Rattle.query_parameters.specs.declared.level.Level.{Level}
+use Rattle.query_parameters.specs.declared.level.Level.TheVariants as level
 use Rattle.query_words.specs.declared.station.StationQuery.{StationQuery}
 use Rattle.epochs.specs.declared.kinds.LineKind.TheVariants.{Net, Sta, Cha}
 use Rattle.epochs.specs.Lines.{LineValues}
@@ -16,7 +16,8 @@ use Rattle.epoch_catalog.specs.declared.families.Family.TheVariants.{StationsOf,
 use Rattle.epoch_catalog.specs.Families.{is_in}
 use Rattle.epoch_rules.specs.KeyOrder.{key_parts_of, text_cmp}
 use Rattle.epoch_rules.specs.Rules.{is_line_of, contains}
-use Rattle.station_text.specs.Windows.{line_meets, line_passes, is_in_area, is_everywhere}
+use Rattle.query_parameters.specs.Places.{is_everywhere}
+use Rattle.station_text.specs.Windows.{line_meets, line_passes, is_in_area}
 
 -- the live lines of a family
 abbrev pub family_lines : Family → List LineValues → List LineValues

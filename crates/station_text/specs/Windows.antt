@@ -2,8 +2,8 @@
 use Rattle.std.specs.Prelude.{ℕ, zero, suc, ℤ, pos, Bool, true, false, ◌&&◌, List, [], ◌∷◌, Option, Some, None, int_lt, int_le}
 use Rattle.dataselect.specs.Query.{holds}
 use Rattle.dataselect.specs.declared.query.Selection.{Selection}
-use Rattle.query_words.specs.declared.station.Area.{Area}
-use Rattle.query_words.specs.declared.station.Limits2.{Limits2}
+use Rattle.query_parameters.specs.declared.area.Area.{Area}
+use Rattle.query_parameters.specs.Places.{is_place_in}
 use Rattle.query_words.specs.declared.station.StationQuery.{StationQuery}
 use Rattle.epochs.specs.Fields.{Value, number}
 use Rattle.epochs.specs.Lines.{LineValues, end_of}
@@ -41,11 +41,6 @@ line_meets s e = meets s (epoch_start e) (end_of e.values)
 abbrev pub line_passes : StationQuery → LineValues → Bool
 line_passes q e = passes_comparisons q (epoch_start e) (end_of e.values)
 
--- the number is in its limits, these included
-abbrev pub is_within_limits : Limits2 → ℤ → Bool
-is_within_limits limits n =
-    holds (λ least. int_le least.millionths n) limits.least && holds (λ most. int_le n most.millionths) limits.most
-
 -- the numbers among the values of a line: of a station or a channel latitude and longitude come first
 abbrev pub numbers_in : List Value → List ℤ
 numbers_in [] = []
@@ -57,20 +52,6 @@ number_among n [] = pos 0
 number_among zero (x ∷ xs) = x
 number_among (suc n) (x ∷ xs) = number_among n xs
 
-abbrev pub is_place_in : Area → ℤ → ℤ → Bool
-is_place_in area latitude longitude =
-    is_within_limits area.latitude latitude && is_within_limits area.longitude longitude
-
 -- the place of a line is in the area
 abbrev pub is_in_area : Area → LineValues → Bool
 is_in_area area e = is_place_in area (number_among 0 (numbers_in e.values)) (number_among 1 (numbers_in e.values))
-
-abbrev pub is_absent : {T : Type 0} → Option T → Bool
-is_absent None = true
-is_absent (Some x) = false
-
--- an area without a limit
-abbrev pub is_everywhere : Area → Bool
-is_everywhere area =
-    is_absent area.latitude.least && is_absent area.latitude.most
-    && is_absent area.longitude.least && is_absent area.longitude.most

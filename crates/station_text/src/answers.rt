@@ -1,7 +1,8 @@
 //! The text that a query for stations is answered with.
 ghost use Rattle.std.specs.Prelude.{◌≡◌, map, IfOk, IfErr, Ok};
 ghost use Rattle.station_text.specs.Asked.{asked_lines};
-ghost use Rattle.station_text.specs.Answers.{text_answer_of, RefusesTextAs};
+ghost use Rattle.line_columns.specs.Answers.{RefusesTextAs};
+ghost use Rattle.station_text.specs.Answers.{text_answer_of};
 ghost use Rattle.station_text.specs.Lines.{line_at};
 
 use crate::asked::is_line_asked;

@@ -5,7 +5,7 @@ ghost use Rattle.epochs.specs.Views.{values_of_line};
 ghost use Rattle.epochs.specs.declared.line.Line.TheVariants.{Net, Sta, Cha};
 ghost use Rattle.station_text.specs.Asked.{is_every, takes_all_channels, matches_channel, is_inner_channel, has_channel, is_wanted, asks_inside, is_inner_station, takes_all_stations, has_station, names_network, names_station, names_channel, selects_network, selects_station, selects_channel, is_eligible, asks_network, asks_station, asks_channel, is_line_asked};
 
-use crate::windows::{Epoch, is_everywhere, is_in_area};
+use crate::windows::Epoch;
 use channel_globs::PatternList;
 use dataselect::Selection;
 use epoch_catalog::{Catalog, Family};
@@ -103,7 +103,7 @@ fn is_wanted(area: &Area, selection: &Selection, station: &StationEpoch) -> bool
     ensures { result ≡ is_wanted area.now selection.now (values_of_line (Sta station.now)) }
 {
     selection.station.matches(&station.station)
-        && is_in_area(area, station.latitude, station.longitude)
+        && area.contains(station.latitude, station.longitude)
 }
 
 // Whether a network may be asked for by the station.
@@ -165,7 +165,7 @@ fn has_inner_station(
 fn takes_all_stations(area: &Area, selection: &Selection) -> bool
     ensures { result ≡ takes_all_stations area.now selection.now }
 {
-    is_every(&selection.station) && takes_all_channels(selection) && is_everywhere(area)
+    is_every(&selection.station) && takes_all_channels(selection) && area.is_everywhere()
 }
 
 // Whether the network has a station that is asked for.
@@ -253,7 +253,7 @@ fn is_eligible_station(query: &StationQuery, station: &StationEpoch) -> bool
     ensures { result ≡ is_eligible query.now (values_of_line (Sta station.now)) }
 {
     station_epoch(station).passes_comparisons(query)
-        && is_in_area(&query.area, station.latitude, station.longitude)
+        && query.area.contains(station.latitude, station.longitude)
 }
 
 // Whether the station is asked for.
@@ -268,7 +268,7 @@ fn is_eligible_channel(query: &StationQuery, channel: &ChannelEpoch) -> bool
     ensures { result ≡ is_eligible query.now (values_of_line (Cha channel.now)) }
 {
     channel_epoch(channel).passes_comparisons(query)
-        && is_in_area(&query.area, channel.latitude, channel.longitude)
+        && query.area.contains(channel.latitude, channel.longitude)
 }
 
 // Whether the channel is asked for.

@@ -12,7 +12,6 @@
 
 mod answers;
 mod asked;
-mod columns;
 mod law;
 mod lines;
 #[cfg(test)]

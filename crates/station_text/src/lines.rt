@@ -12,11 +12,11 @@ ghost use Rattle.station_text.specs.Texts.{header_text, line_text, answer_text};
 ghost use Rattle.station_text.specs.Lines.{line_at};
 
 use crate::asked::{network_epoch, station_epoch};
-use crate::columns::{Column, write_columns};
 use channel_globs::Code;
 use epoch_catalog::{Catalog, Family};
 use epochs::{ChannelEpoch, Line, NetworkEpoch, StationEpoch};
 use exact_time::{OutOfMemory, Text};
+use line_columns::{Column, write_columns};
 use query_words::Level;
 use std::alloc::Global;
 use std::collections::BTreeSet;

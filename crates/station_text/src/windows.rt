@@ -2,12 +2,12 @@
 ghost use Rattle.std.specs.Prelude.{◌≡◌, ◌&&◌, int_le, int_lt};
 ghost use Rattle.dataselect.specs.Query.{holds};
 ghost use Rattle.epoch_rules.specs.Rules.{ends_by};
-ghost use Rattle.station_text.specs.Windows.{ends_from, ends_before, ends_after, meets, passes_comparisons, is_within_limits, is_place_in, is_everywhere};
-ghost use Rattle.station_text.specs.Columns.{optional_micros};
+ghost use Rattle.station_text.specs.Windows.{ends_from, ends_before, ends_after, meets, passes_comparisons};
+ghost use Rattle.line_columns.specs.Columns.{optional_micros};
 
 use dataselect::Selection;
-use exact_time::{Decimal, Moment};
-use query_words::{Area, Limits2, StationQuery};
+use exact_time::Moment;
+use query_words::StationQuery;
 
 /// An epoch: from its start up to its end, if it has one.
 #[derive(Clone, Copy, Debug)]
@@ -108,46 +108,4 @@ impl Epoch {
     {
         self.start.micros <= inner.start.micros && ends_by(inner.end, self.end)
     }
-}
-
-// Whether a number is in its limits, these included.
-fn is_within(limits: &Limits2, number: Decimal) -> bool
-    ensures { result ≡ is_within_limits limits.now number.millionths }
-{
-    is_at_least(number, limits.least) && is_at_most(number, limits.most)
-}
-
-fn is_at_least(number: Decimal, least: Option<Decimal>) -> bool
-    ensures { result ≡ holds (λ d. int_le d.millionths number.millionths) least }
-{
-    match least {
-        None => true,
-        Some(least) => least.millionths <= number.millionths,
-    }
-}
-
-fn is_at_most(number: Decimal, most: Option<Decimal>) -> bool
-    ensures { result ≡ holds (λ d. int_le number.millionths d.millionths) most }
-{
-    match most {
-        None => true,
-        Some(most) => number.millionths <= most.millionths,
-    }
-}
-
-/// Whether a place is in the area, its limits included.
-pub fn is_in_area(area: &Area, latitude: Decimal, longitude: Decimal) -> bool
-    ensures { result ≡ is_place_in area.now latitude.millionths longitude.millionths }
-{
-    is_within(&area.latitude, latitude) && is_within(&area.longitude, longitude)
-}
-
-/// Whether the area has no limit.
-pub fn is_everywhere(area: &Area) -> bool
-    ensures { result ≡ is_everywhere area.now }
-{
-    area.latitude.least.is_none()
-        && area.latitude.most.is_none()
-        && area.longitude.least.is_none()
-        && area.longitude.most.is_none()
 }

@@ -47,7 +47,7 @@ or_none true rest h = refl
 or_none false rest h = h
 
 -- a row of the longer list stands where the new spot is, or where it stood
-stands_more : (rows : List Row) (row : Row) (name : Nslc) (spot : Spot)
+pub stands_more : (rows : List Row) (row : Row) (name : Nslc) (spot : Spot)
     → stands (rows ++ row ∷ []) name spot ≡ ((is_same row.header.name name && eq_by_cmp spot_cmp spot (spot_at (length rows) row)) || stands rows name spot)
 stands_more rows row name spot =
     let same = is_same row.header.name name in

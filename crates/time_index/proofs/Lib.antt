@@ -4,5 +4,8 @@ pub mod Found
 pub mod Grown
 pub mod Lasts
 pub mod Named
+pub mod NamesFound
 pub mod Sets
+pub mod Shrunk
+pub mod SpansFound
 pub mod Twins

@@ -1,5 +1,7 @@
 pub mod Doubles
 pub mod Index
+pub mod Names
+pub mod SpanRanks
 pub mod Spots
 pub mod Wholes
 pub mod Windows

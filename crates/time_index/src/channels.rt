@@ -1,5 +1,5 @@
 //! The spots of each channel.
-ghost use Rattle.std.specs.Prelude.{◌≡◌, ◌||◌, ◌&&◌, max, if◌then◌else◌, OnOk, OnErr, IfOk, None};
+ghost use Rattle.std.specs.Prelude.{◌≡◌, false, ◌||◌, ◌&&◌, max, if◌then◌else◌, OnOk, OnErr, IfOk, None};
 ghost use Rattle.std.specs.Ordering.{eq_by_cmp};
 ghost use Rattle.std.specs.BTreeMap.{get};
 ghost use Rattle.std.specs.BTreeSet.{contains};
@@ -79,4 +79,18 @@ pub fn add_spot(
         return Ok(());
     }
     begin(alloc, channels, name, spot, longest)
+}
+
+/// Takes a spot out of the channel of that name. The channel stays, and may be empty; how long its rows last
+/// at most stays too, since it is a limit.
+pub fn remove_spot(channels: &mut BTreeMap<Nslc, Channel>, name: &Nslc, spot: Spot)
+    ensures spots { (n : Nslc) (q : Spot) → has_spot channels.new n q ≡ (if is_same name.now n && eq_by_cmp spot_cmp q spot then false else has_spot channels.old n q) }
+    ensures longest { (n : Nslc) → longest_of channels.new n ≡ longest_of channels.old n }
+{
+    if !channels.contains_key(name) {
+        return;
+    }
+    if let Some(channel) = channels.get_mut(name) {
+        channel.spots.remove(&spot);
+    }
 }

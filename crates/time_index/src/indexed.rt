@@ -1,18 +1,24 @@
 //! The shelf.
-ghost use Rattle.std.specs.Prelude.{◌≡◌, ℕ, ◌^◌, ◌<◌, ◌≤◌, true, [], ◌∷◌, ◌++◌, length, IfOk, OnOk, OnErr};
+ghost use Rattle.std.specs.Prelude.{◌≡◌, ℕ, ◌+◌, ◌-◌, ◌^◌, ◌<◌, ◌≤◌, true, [], ◌∷◌, ◌++◌, length, take, map, IfOk, OnOk, OnErr};
 ghost use Rattle.std.specs.Vec.{vec_len, vec_capacity};
 ghost use Rattle.dataselect.specs.Chosen.{chosen_places};
-ghost use Rattle.dataselect.specs.Rows.{has_image};
+ghost use Rattle.dataselect.specs.HeldNames.{names_of};
+ghost use Rattle.dataselect.specs.MergedSpans.{value_of, merged_spans_of};
+ghost use Rattle.dataselect.specs.Rows.{has_image, with_rows};
 ghost use Rattle.time_index.specs.Index.{IsChannelIndex};
 ghost use Rattle.time_index.specs.Spots.{spot_at};
 ghost use Rattle.time_index.specs.Windows.{Cover, is_place_among};
 
-use crate::channels::{Channel, add_spot};
+use crate::channel_spans::channel_ranks;
+use crate::channels::{Channel, add_spot, remove_spot};
 use crate::doubles::is_twin;
+use crate::names::names_matched;
 use crate::spot::{Spot, micros_lasted, spot_of};
 use crate::windows::{candidates, ranks_at};
 use channel_globs::Nslc;
-use dataselect::{DataQuery, Inserted, Selection, Shelf, Sight, pick, places_of};
+use dataselect::{
+    DataQuery, Inserted, Selection, Shelf, Sight, Span, list_names, pick, places_of, spans_ranked,
+};
 use exact_time::{Many, OutOfMemory};
 use mseed_header::Row;
 use std::alloc::Global;
@@ -93,6 +99,37 @@ impl IndexedShelf {
         Ok(())
     }
 
+    // Takes the last row out. Takes no memory.
+    fn drop_last(&mut self)
+        requires some { 0 < length self.old.rows.items }
+        ensures { self.new.rows.items ≡ take (length self.old.rows.items - 1) self.old.rows.items }
+    {
+        let row = self.rows.take_last();
+        let spot = spot_of(self.rows.len(), &row);
+        remove_spot(&mut self.channels, &row.header.name, spot);
+    }
+
+    // Takes out all rows but the first ones. Takes no memory.
+    fn cut_back(&mut self, len: usize)
+        ensures { self.new.rows.items ≡ take len self.old.rows.items }
+    {
+        'rows: while self.rows.len() > len {
+            self.drop_last();
+        }
+    }
+
+    // Inserts rows in order, up to the first for which memory doesn't suffice.
+    fn insert_each(&mut self, more: Vec<Row>) -> Result<(), OutOfMemory>
+        requires few { length self.old.rows.items + length more.items ≤ 2 ^ 32 }
+        ensures ok { OnOk result (self.new.rows.items ≡ with_rows self.old.rows.items more.items) }
+        ensures err { OnErr result (take (length self.old.rows.items) self.new.rows.items ≡ self.old.rows.items) }
+    {
+        'rows: for row in more {
+            self.insert(row)?;
+        }
+        Ok(())
+    }
+
     // Places among which are those of all rows that some selection selects. Where many selections name
     // the same rows, a walk over all rows is no dearer.
     fn places_to_test(&self, selections: &[Selection]) -> Result<Many<usize>, OutOfMemory>
@@ -134,9 +171,29 @@ impl Shelf for IndexedShelf {
         Ok(Inserted::New)
     }
 
+    fn insert_all(&mut self, more: Many<Row>) -> Result<(), OutOfMemory> {
+        let before = self.rows.len();
+        let done = self.insert_each(more.into_vec());
+        if done.is_err() {
+            self.cut_back(before);
+        }
+        done
+    }
+
     fn choose<V: Sight>(&self, sight: &V, query: &DataQuery) -> Result<Many<usize>, OutOfMemory> {
         let places = self.chosen(sight, query)?;
         pick(self.alloc, self.rows.as_slice(), places.as_slice(), query)
+    }
+
+    fn names(&self, selection: &Selection) -> Result<Many<Nslc>, OutOfMemory> {
+        let names = names_matched(self.alloc, &self.channels, selection)?;
+        list_names(self.alloc, &names)
+    }
+
+    fn merged_spans(&self, name: &Nslc) -> Result<Many<Span>, OutOfMemory> {
+        let ranks = channel_ranks(self.alloc, &self.rows, &self.channels, name)?;
+        let spans = spans_ranked(self.alloc, &self.rows, &ranks)?;
+        Ok(spans)
     }
 
     ghost few = { λ s. s.few };

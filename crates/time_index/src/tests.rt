@@ -2,3 +2,4 @@
 mod alike;
 mod many;
 mod records;
+mod spans;

@@ -8,7 +8,7 @@ use super::records::{
 use channel_globs::{Code, Nslc};
 use exact_time::{Bytes, Moment, cmp_sample_time};
 use mseed_header::{
-    CutFault, Quality, RecordFault, cut_records, first_refused, last, next, read_header,
+    CutFault, Quality, RecordFault, count_records, cut_records, last, next, read_header,
 };
 use std::cmp::Ordering;
 use std::process::Abort;
@@ -248,10 +248,10 @@ fn tells_the_first_bad_record(rt: HostRuntime) -> Result<(), Fail> {
         assert_eq!(rt; refused, Some(at));
     }
     let whole = batch.as_slice().get(..1024).ok_or("short")?;
-    assert_eq!(rt; first_refused(whole), None);
+    assert_eq!(rt; count_records(whole), Ok(2));
     assert_eq!(rt;
-        first_refused(batch.as_slice()),
-        Some((1024, RecordFault::Short))
+        count_records(batch.as_slice()),
+        Err((1024, RecordFault::Short))
     );
     Ok(())
 }

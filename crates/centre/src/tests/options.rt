@@ -1,9 +1,9 @@
 //! The options of `select`, and segments.
 use super::records::{anmo_record, anmo_record_at, changed, cut, late_record, later_record};
 use super::runs::{USUAL, check};
-use dataselect::{All, PlainShelf, Shelf, answer};
-use exact_time::Bytes;
-use query_words::data_post;
+use channel_globs::{Part, PatternList};
+use dataselect::{All, DataQuery, Nodata, PlainShelf, Selection, Shelf, answer};
+use exact_time::{Bytes, Many, Moment};
 use std::alloc::Global;
 use std::process::Abort;
 use std::test::Fail;
@@ -169,9 +169,26 @@ fn tells_an_option_before_the_order(rt: HostRuntime) -> Result<(), Fail> {
     check(&rt, &words, b"", 2, b"", "centre: query: Value MINIMUM\n")
 }
 
-// A record that two selections of a body choose is given once.
+// The selection of the one station, of these channels in a window.
+fn selection(
+    alloc: Global,
+    channel: &str,
+    start: &str,
+    end: Option<Moment>,
+) -> Result<Selection, Fail> {
+    Ok(Selection {
+        network: PatternList::read(alloc, b"IU", Part::Network)?,
+        station: PatternList::read(alloc, b"ANMO", Part::Station)?,
+        location: PatternList::read(alloc, b"00", Part::Location)?,
+        channel: PatternList::read(alloc, channel.as_bytes(), Part::Channel)?,
+        start: Some(Moment::read(start.as_bytes())?),
+        end,
+    })
+}
+
+// A record that two selections choose is given once.
 #[test]
-fn answers_a_body_of_two_selections(rt: HostRuntime) -> Result<(), Fail> {
+fn answers_two_selections(rt: HostRuntime) -> Result<(), Fail> {
     let alloc = rt.alloc();
     let mut shelf = PlainShelf::new(alloc);
     for row in cut(alloc, &anmo_record())?.into_vec() {
@@ -179,10 +196,17 @@ fn answers_a_body_of_two_selections(rt: HostRuntime) -> Result<(), Fail> {
             shelf.insert(row)?;
         }
     }
-    let query = data_post(
-        alloc,
-        b"quality=B\nIU ANMO 00 BHZ 2024-02-01T00:00:00 2024-02-01T00:00:02\nIU ANMO 00 BH? 2024-02-01T00:00:03 *\n",
-    )?;
+    let end = Some(Moment::read(b"2024-02-01T00:00:02")?);
+    let mut selections = Many::new(alloc);
+    selections.push(selection(alloc, "BHZ", "2024-02-01T00:00:00", end)?)?;
+    selections.push(selection(alloc, "BH?", "2024-02-01T00:00:03", None)?)?;
+    let query = DataQuery {
+        selections,
+        quality: None,
+        minimum: 0,
+        longest: false,
+        nodata: Nodata::Quiet,
+    };
     let body = answer(alloc, &shelf, &All, &query, 512)?;
     assert_eq!(rt; body.as_slice(), anmo_record().as_slice());
     Ok(())

@@ -1,13 +1,11 @@
-use Rattle.std.proofs.Common.{◌∙◌, sym, ap}
-use Rattle.access_digest.specs.Who.{ha1_of}
-use Rattle.access_digest.proofs.WhoFound.{ha1_found, no_ha1}
+use Rattle.std.proofs.Common.{Option, ap}
+use Rattle.std.specs.Prelude.{option_map}
+use Rattle.epochs.specs.Lines.{LineValues}
+use Rattle.access_digest.specs.Who.{ha1_in}
 use Rattle.access_digest.proofs.callers.ha1_of.Goals as goal
 
 pub returns-in-Some : goal.returns-in-Some
-returns-in-Some c =
-    let user = c.in-Some.user.now in
-    let found = ha1_found c.args.catalog.now user.name user.ha1 user.roles c.lines-lines.ensures.kept user.spellable c.in-Some.ensures.1 in
-    sym found ∙ ap (ha1_of c.args.catalog.now) c.in-Some.ensures.0
+returns-in-Some c = ap (λ (line : Option LineValues). option_map (λ e. ha1_in e.values) line) c.in-Some.ensures.user
 
 pub returns-in-None : goal.returns-in-None
-returns-in-None c = sym (no_ha1 c.args.catalog.now c.args.name.now c.in-None.ensures)
+returns-in-None c = ap (λ (line : Option LineValues). option_map (λ e. ha1_in e.values) line) c.in-None.ensures.user

@@ -1,7 +1,7 @@
 use Rattle.std.proofs.Common.{◌≡◌, ◌≤◌, ◌∙◌, ap, sym, refl, arith, length, map, drop, get_or, true, false, List, [], codes, Some}
 use Rattle.std.specs.Prelude.{string_bytes}
 use Rattle.std.proofs.lemmas.List.{length-map}
-use Rattle.query_words.specs.Gets.{text_or}
+use Rattle.query_parameters.specs.Gets.{text_or}
 use Rattle.centre.specs.Arguments.{words_at}
 use Rattle.centre.specs.Commands.{Text, are_options, value_of, limit_of}
 use Rattle.centre.proofs.Arguments.{few_words, text_at, positions_test, options_behind, are_words, same_words, other_words, another, position, option}

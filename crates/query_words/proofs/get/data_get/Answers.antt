@@ -1,15 +1,17 @@
 use Rattle.std.proofs.Common.{◌≡◌, inl, inr, ap, sym, ◌∙◌, Err, None, List, ◌∷◌, [], ◌++◌, arith, subst}
 use Rattle.dataselect.specs.declared.query.Selection.{Selection}
-use Rattle.query_words.specs.declared.fault.QueryFault.TheVariants.{Order}
+use Rattle.query_parameters.specs.declared.fault.QueryFault.TheVariants.{Order}
 use Rattle.std.proofs.lemmas.List.{get_or_read}
 use Rattle.std.proofs.lemmas.Result.{err_from_is_err_and}
-use Rattle.query_words.specs.Extracts.{limit_word, IsMade}
+use Rattle.query_parameters.specs.Extracts.{limit_word}
+use Rattle.query_words.specs.Options.{IsMade}
 use Rattle.query_words.proofs.OneDataGet.{only_read, only_refused}
-use Rattle.query_words.proofs.OneGet.{words_refused}
+use Rattle.query_parameters.proofs.OneGet.{words_refused}
 use Rattle.query_words.specs.DataGet.{IsBackwards}
-use Rattle.query_words.specs.Gets.{LacksNone}
-use Rattle.query_words.specs.Rows.{data_names}
-use Rattle.query_words.proofs.SaidWords.{few_enough, asked, turned}
+use Rattle.query_parameters.specs.Gets.{LacksNone}
+use Rattle.query_words.specs.Tables.{data_names}
+use Rattle.query_parameters.proofs.Said.{few_enough}
+use Rattle.query_words.proofs.SaidWords.{asked, turned}
 use Rattle.query_words.proofs.get.data_get.Goals as goal
 
 pub returns-in_err-words-clause-exact : goal.returns-in_err-words-clause-exact

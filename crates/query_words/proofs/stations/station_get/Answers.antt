@@ -3,14 +3,15 @@ use Rattle.std.proofs.lemmas.Bool.{iff_false}
 use Rattle.std.proofs.lemmas.List.{get_or_read}
 use Rattle.std.proofs.lemmas.Result.{err_from_is_err_and}
 use Rattle.dataselect.specs.declared.query.Selection.{Selection}
-use Rattle.query_words.specs.Extracts.{limit_word, IsStationMade}
-use Rattle.query_words.specs.Gets.{LacksNone}
-use Rattle.query_words.specs.Rows.{station_names}
+use Rattle.query_parameters.specs.Extracts.{limit_word}
+use Rattle.query_words.specs.Options.{IsStationMade}
+use Rattle.query_parameters.specs.Gets.{LacksNone}
+use Rattle.query_words.specs.Tables.{station_names}
 use Rattle.query_words.specs.StationGet.{IsStationTurned}
-use Rattle.query_words.specs.declared.fault.QueryFault.TheVariants.{Order}
-use Rattle.query_words.proofs.OneGet.{words_refused}
+use Rattle.query_parameters.specs.declared.fault.QueryFault.TheVariants.{Order}
+use Rattle.query_parameters.proofs.OneGet.{words_refused}
 use Rattle.query_words.proofs.OneStation.{only_get, only_refused}
-use Rattle.query_words.proofs.SaidWords.{few_enough}
+use Rattle.query_parameters.proofs.Said.{few_enough}
 use Rattle.query_words.proofs.StationSteps.{asked, turned, late}
 use Rattle.query_words.proofs.stations.station_get.Goals as goal
 

@@ -1,6 +1,6 @@
 use Rattle.channel_globs.specs.declared.nslc.Part.TheVariants.{Network}
 use Rattle.epochs.proofs.SpellableWord.{spellable_has}
-use Rattle.station_text.proofs.Printable.{code_ascii, writable, writable_end}
+use Rattle.line_columns.proofs.Printable.{code_ascii, writable, writable_end}
 use Rattle.station_text.proofs.lines.write_network.Goals as goal
 
 pub write_columns-requires : goal.write_columns-requires

@@ -1,0 +1,5 @@
+pub mod Batches
+pub mod Bodies
+pub mod Format
+pub mod Reading
+pub mod Spelling

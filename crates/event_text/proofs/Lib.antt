@@ -1,0 +1,3 @@
+pub mod GivenLines
+pub mod Members
+pub mod Ranked

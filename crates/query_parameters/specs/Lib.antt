@@ -1,0 +1,14 @@
+pub mod Bodies
+pub mod BodyWords
+pub mod Extracts
+pub mod FirstRefusals
+pub mod Fronts
+pub mod Gets
+pub mod Listed
+pub mod Parameters
+pub mod Places
+pub mod Posts
+pub mod Rows
+pub mod Selecting
+pub mod Values
+pub mod Words

@@ -1,9 +1,0 @@
-use Rattle.std.proofs.Common.{map, take}
-use Rattle.query_words.specs.Bodies.{numbered_line}
-use Rattle.query_words.specs.Fronts.{HasFront}
-use Rattle.query_words.specs.Rows.{names_of}
-use Rattle.query_words.proofs.front.read_front.Given as goal
-
--- the lines so far are right
-abbrev pub invariant-lines : goal.invariant-lines
-invariant-lines l = HasFront (names_of l.table) (map numbered_line (take l.line-index l.lines)) l.words.items

@@ -1,5 +1,0 @@
-use Rattle.std.proofs.Common.{◌≡◌, replicate, None}
-use Rattle.query_words.proofs.words.no_words.Given as goal
-
-abbrev pub invariant-fill : goal.invariant-fill
-invariant-fill l = l.words.items ≡ replicate l._place None

@@ -1,7 +1,0 @@
-use Rattle.std.proofs.Common.{◌≡◌, ◌++◌, map, take}
-use Rattle.station_text.specs.Texts.{behind_bars}
-use Rattle.station_text.specs.Columns.{column_text_of}
-use Rattle.station_text.proofs.columns.write_behind_bars.Given as goal
-
-abbrev pub invariant-columns : goal.invariant-columns
-invariant-columns l = l.out ≡ l.fn.out ++ behind_bars (map column_text_of (take l.column-index l.columns))
