@@ -1,0 +1,13 @@
+pub mod Extents
+pub mod Firsts
+pub mod GroupsAdded
+pub mod GroupsAlike
+pub mod Lasts
+pub mod LineOrder
+pub mod Named
+pub mod Ordered
+pub mod Orders
+pub mod Prints
+pub mod Ranked
+pub mod Starts
+pub mod Walked
