@@ -18,13 +18,12 @@ use Rattle.dataselect.specs.Query.{is_selected, is_asked}
 use Rattle.dataselect.specs.Segments.{segment_length}
 use Rattle.centre.specs.Answers.{IsBodyOf, RefusesInput, IsAnswer}
 use Rattle.centre.specs.Commands.{SelectWords, select, show, is_position, command_of}
-use Rattle.centre.specs.Memory.{bytes_left, pieces_left, GivesPiece, IsListed, part_for, room_behind}
 use Rattle.centre.specs.OptionsLaw.{named_value, words_of_options}
 use Rattle.centre.specs.Settled.{EndsAs, IsSettled, ComesWhere, HasWritten}
 use Rattle.centre.specs.Status.{status_of, error_text_of}
-use Rattle.centre.specs.Streams.{Grew, Puts}
-use Rattle.centre.specs.Table.{World, Stream, Tells, IsSelected, IsRun}
-use Rattle.centre.specs.Transfer.{Had, WritesPart}
+use Rattle.streams.specs.View.{StreamView}
+use Rattle.centre.specs.Table.{World, Tells, IsSelected, IsRun}
+use Rattle.centre.specs.Had.{Had}
 use Rattle.centre.specs.Words.{AreSelectOptions, IsSelectQuery, RefusesSelectWords, time_words, option_words}
 use Rattle.centre.proofs.OneQuery.{all_read}
 use Rattle.centre.specs.declared.help.Shown.TheVariants.{Help, Version, SelectHelp}
@@ -44,37 +43,6 @@ no_position = refl
 
 out_of_order : status_of (Refused Order) ≡ 2
 out_of_order = refl
-
--- three bytes of the second piece are gone
-left : bytes_left (codes "IU" ∷ codes "ANMO" ∷ codes "BHZ" ∷ []) 1 3 ≡ codes "OBHZ"
-left = refl
-
--- the same in pieces, and two bytes more taken of the first
-left_in_pieces : pieces_left (codes "IU" ∷ codes "ANMO" ∷ [] ∷ codes "BHZ" ∷ []) 1 1 ≡ codes "NMO" ∷ codes "BHZ" ∷ []
-left_in_pieces = refl
-
-takes_two : GivesPiece (codes "NMO" ∷ codes "BHZ" ∷ []) (codes "O" ∷ codes "BHZ" ∷ []) 2 2
-takes_two = (refl, refl)
-
-takes_a_piece : GivesPiece (codes "NMO" ∷ codes "BHZ" ∷ []) (codes "BHZ" ∷ []) 3 512
-takes_a_piece = (refl, refl)
-
--- the third call is one that fails, and the second isn't
-third : IsListed 3 (1 ∷ 3 ∷ [])
-third = refl
-
-second_call : IsListed 2 (1 ∷ 3 ∷ []) → ⊥
-second_call h = cc
-
--- of seven bytes there is room for two, and then for none
-room_for_two : part_for (Some 2) 7 ≡ 2
-room_for_two = refl
-
-no_more_room : room_behind (Some 2) 2 ≡ Some 0
-no_more_room = refl
-
-grew : Grew (Some (codes "IU")) (Some (codes "IU ANMO")) (codes " ANMO")
-grew = refl
 
 -- two words are no command, and one may be
 two_words : command_of (codes "select" ∷ codes "IU" ∷ []) ≡ None
@@ -196,13 +164,6 @@ asked = record {
 read_fault : error_text_of ReadFault ≡ codes "centre: read fault\n"
 read_fault = refl
 
--- a put of two of seven bytes, and what is written where the next one fails
-two_put : Puts (Some []) (Some (codes "IU")) (let r : Result ℕ ℕ = Ok 2 in r) (codes "IU ANMO")
-two_put = record { bound = omega arith; progress = λ _. omega arith; bytes = refl }
-
-a_part : WritesPart (Some []) (Some (codes "IU")) (codes "IU ANMO")
-a_part = record { part = codes "IU"; rest = codes " ANMO"; split = refl; output = refl }
-
 had : Had (Some (codes "IU")) (codes "IU")
 had = refl
 
@@ -287,10 +248,16 @@ answer = (all_year, asked_all, body)
 
 -- a run that wrote it, and one that told why it didn't begin
 abbrev before : World
-before = record { source = record { bytes = Some anmo_image; faults = 0 }; sink = record { bytes = Some []; faults = 0 } }
+before = record {
+  source = record { left = Some anmo_image; written = None; faults = 0 };
+  sink = record { left = None; written = Some []; faults = 0 };
+}
 
 abbrev after : World
-after = record { source = record { bytes = Some []; faults = 0 }; sink = record { bytes = Some anmo_image; faults = 0 } }
+after = record {
+  source = record { left = Some []; written = None; faults = 0 };
+  sink = record { left = None; written = Some anmo_image; faults = 0 };
+}
 
 selected : IsSelected words before after
 selected = record { input = anmo_image; body = anmo_image; had = refl; answer = answer; end = refl; output = refl }
@@ -298,11 +265,11 @@ selected = record { input = anmo_image; body = anmo_image; had = refl; answer = 
 written : HasWritten (Some (select words)) before after
 written = record { input = anmo_image; body = anmo_image; had = refl; answer = answer; output = refl }
 
-abbrev silent : Stream
-silent = record { bytes = Some []; faults = 0 }
+abbrev silent : StreamView
+silent = record { left = None; written = Some []; faults = 0 }
 
-abbrev told : Stream
-told = record { bytes = Some (codes "centre: unknown command line\n"); faults = 0 }
+abbrev told : StreamView
+told = record { left = None; written = Some (codes "centre: unknown command line\n"); faults = 0 }
 
 told_unknown : Tells silent told (codes "centre: unknown command line\n")
 told_unknown = record { part = record { part = codes "centre: unknown command line\n"; rest = []; split = refl; output = refl }; whole = inl refl }

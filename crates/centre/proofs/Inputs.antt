@@ -1,8 +1,8 @@
 -- What a source had, from what was taken.
-use Rattle.std.proofs.Common.{ℕ, ◌<◌, List, ◌++◌, length, refl, sym, ◌∙◌, ap, arith, None, Some, append-nil, append_assoc, length-append}
+use Rattle.std.proofs.Common.{ℕ, ◌<◌, List, ◌++◌, length, refl, ◌∙◌, ap, arith, None, Some, append-nil, length-append}
 use Rattle.std.specs.declared.option.Option.{Option}
 use Rattle.std.specs.Io.KnownBytes.{Consumes, IsAtEnd}
-use Rattle.centre.specs.Transfer.{Had, HadMore}
+use Rattle.centre.specs.Had.{Had, HadMore}
 
 -- what was taken up to the end is what there was
 pub had_all : (left after : Option (List ℕ)) (input : List ℕ) → Consumes left after input → IsAtEnd after → Had left input
@@ -15,9 +15,3 @@ had_more None after limit input taken long = record { input = input; had = tt; l
 had_more (Some xs) None limit input taken long = absurd taken
 had_more (Some xs) (Some ys) limit input taken long =
     record { input = xs; had = refl; long = (let e = ap length taken ∙ length-append input ys in omega arith) }
-
-pub Consumes-then : (a b c : Option (List ℕ)) (p q : List ℕ) → Consumes a b p → Consumes b c q → Consumes a c (p ++ q)
-Consumes-then None b c p q h k = tt
-Consumes-then (Some xs) None c p q h k = absurd h
-Consumes-then (Some xs) (Some ys) None p q h k = absurd k
-Consumes-then (Some xs) (Some ys) (Some zs) p q h k = h ∙ ap (λ (s : List ℕ). p ++ s) k ∙ sym (append_assoc p q zs)

@@ -1,12 +1,9 @@
 pub mod Arguments
-pub mod Counting
 pub mod Examples
-pub mod Grows
 pub mod Inputs
 pub mod OneAnswer
 pub mod OneQuery
 pub mod Options
-pub mod Pieces
 pub mod Rows
 pub mod SelectWords
 pub mod Shelved

@@ -15,12 +15,13 @@ use Rattle.centre.specs.declared.ending.Refusal.TheVariants.{UnknownCommand, Val
 use Rattle.centre.specs.declared.ending.Stop.{Stop}
 use Rattle.centre.specs.declared.ending.Stop.TheVariants.{Refused, ReadFault, WriteFault, OutOfMemory}
 use Rattle.centre.specs.Answers.{IsBodyOf, RefusesInput, places_for, all_seen, stop_for_data}
-use Rattle.centre.specs.Streams.{Grew}
+use Rattle.streams.specs.Effects.{Grew, WritesPart}
+use Rattle.streams.specs.View.{StreamView}
 use Rattle.centre.specs.Commands.{SelectWords, Command, select, show}
 use Rattle.centre.specs.Shown.{text_shown}
-use Rattle.centre.specs.Table.{World, Stream, Tells, SelectRow, ShowRow, UnknownRow, IsEnding, ToldFor}
+use Rattle.centre.specs.Table.{World, Tells, SelectRow, ShowRow, UnknownRow, IsEnding, ToldFor}
 use Rattle.centre.specs.declared.ending.Refusal.{Refusal}
-use Rattle.centre.specs.Transfer.{Had, WritesPart}
+use Rattle.centre.specs.Had.{Had}
 use Rattle.centre.specs.Intake.{AreAsked, HasTaken, IntakeStops}
 use Rattle.centre.proofs.Inputs.{had_all}
 use Rattle.centre.specs.Words.{IsSelectQuery, RefusesSelectWords, StopsWith}
@@ -34,7 +35,7 @@ words_row w world WriteFault why = absurd why
 
 -- taking the input stopped
 pub read_row : (w : SelectWords) (query : DataQuery) (before after : World) (stop : Stop) → IsSelectQuery w query → after.sink ≡ before.sink
-    → IntakeStops before.source.bytes before.source.faults after.source.faults stop → SelectRow w before after (Err stop)
+    → IntakeStops before.source after.source stop → SelectRow w before after (Err stop)
 read_row w query before after ReadFault asked kept why = record { query = query; asked = asked; rose = why; kept = kept }
 read_row w query before after (Refused InputTooLong) asked kept why =
     inr (record { input = why.input; query = query; had = why.had; asked = asked; why = why.long; kept = kept })
@@ -49,7 +50,7 @@ read_row w query before after (Refused NoData) asked kept why = absurd why
 read_row w query before after (Refused (TooLarge bytes limit)) asked kept why = absurd why
 
 -- the input is refused
-pub input_row : (w : SelectWords) (query : DataQuery) (input : List ℕ) (before after : World) (stop : Stop) → IsSelectQuery w query → Had before.source.bytes input → after.sink ≡ before.sink
+pub input_row : (w : SelectWords) (query : DataQuery) (input : List ℕ) (before after : World) (stop : Stop) → IsSelectQuery w query → Had before.source.left input → after.sink ≡ before.sink
     → StopsWith (RefusesInput query w.limit input) stop → SelectRow w before after (Err stop)
 input_row w query input before after (Refused refusal) asked had kept why =
     inr (record { input = input; query = query; had = had; asked = asked; why = why; kept = kept })
@@ -165,41 +166,41 @@ data_row query limit input held NoMemory within asked e = tt
 
 -- the input was taken, and its answer is refused
 pub refused_row : (w : SelectWords) (query : DataQuery) (held : List Row) (refusal : DataRefusal) (before after : World) (stop : Stop) → stop ≡ stop_for_data w.limit refusal → IsSelectQuery w query
-    → HasTaken query before.source.bytes after.source.bytes held → after.sink ≡ before.sink → RefusesAs (answer_of all_seen query w.limit held) refusal → SelectRow w before after (Err stop)
+    → HasTaken query before.source.left after.source.left held → after.sink ≡ before.sink → RefusesAs (answer_of all_seen query w.limit held) refusal → SelectRow w before after (Err stop)
 refused_row w query held refusal before after stop is asked taken kept why =
     let refused = data_row query w.limit taken.input held refusal taken.within taken.asked why in
-    input_row w query taken.input before after stop asked (had_all before.source.bytes after.source.bytes taken.input taken.taken taken.end) kept
+    input_row w query taken.input before after stop asked (had_all before.source.left after.source.left taken.input taken.taken taken.end) kept
     (subst (λ (s : Stop). StopsWith (RefusesInput query w.limit taken.input) s) (sym is) refused)
 
 -- the answer was written
-pub selected_row : (w : SelectWords) (query : DataQuery) (held : List Row) (body : List ℕ) (before after : World) → IsSelectQuery w query → HasTaken query before.source.bytes after.source.bytes held
-    → answer_of all_seen query w.limit held ≡ Ok body → Grew before.sink.bytes after.sink.bytes body → SelectRow w before after (Ok tt)
+pub selected_row : (w : SelectWords) (query : DataQuery) (held : List Row) (body : List ℕ) (before after : World) → IsSelectQuery w query → HasTaken query before.source.left after.source.left held
+    → answer_of all_seen query w.limit held ≡ Ok body → Grew before.sink.written after.sink.written body → SelectRow w before after (Ok tt)
 selected_row w query held body before after asked taken answer output = record {
   input = taken.input;
   body = body;
-  had = had_all before.source.bytes after.source.bytes taken.input taken.taken taken.end;
+  had = had_all before.source.left after.source.left taken.input taken.taken taken.end;
   answer = (query, asked, body_row query w.limit taken.input body held taken.within taken.asked answer);
   end = taken.end;
   output = output;
 }
 
 -- or a first part of it
-pub cut_row : (w : SelectWords) (query : DataQuery) (held : List Row) (body : List ℕ) (before after : World) → IsSelectQuery w query → HasTaken query before.source.bytes after.source.bytes held
-    → answer_of all_seen query w.limit held ≡ Ok body → Rose before.sink.faults after.sink.faults → WritesPart before.sink.bytes after.sink.bytes body → SelectRow w before after (Err WriteFault)
+pub cut_row : (w : SelectWords) (query : DataQuery) (held : List Row) (body : List ℕ) (before after : World) → IsSelectQuery w query → HasTaken query before.source.left after.source.left held
+    → answer_of all_seen query w.limit held ≡ Ok body → Rose before.sink.faults after.sink.faults → WritesPart before.sink.written after.sink.written body → SelectRow w before after (Err WriteFault)
 cut_row w query held body before after asked taken answer rose part = record {
   input = taken.input;
   body = body;
-  had = had_all before.source.bytes after.source.bytes taken.input taken.taken taken.end;
+  had = had_all before.source.left after.source.left taken.input taken.taken taken.end;
   answer = (query, asked, body_row query w.limit taken.input body held taken.within taken.asked answer);
   rose = rose;
   output = part;
 }
 
 -- nothing was told
-pub tells_nothing : (s : Stream) → Tells s s []
+pub tells_nothing : (s : StreamView) → Tells s s []
 tells_nothing s = record {
-  part = record { part = []; rest = []; split = refl; output = grew_nothing s.bytes };
-  whole = inl (grew_nothing s.bytes);
+  part = record { part = []; rest = []; split = refl; output = grew_nothing s.written };
+  whole = inl (grew_nothing s.written);
 }
   where
     grew_nothing : (o : Option (List ℕ)) → Grew o o []

@@ -25,8 +25,10 @@ use Rattle.centre.specs.declared.ending.Stop.{Stop}
 use Rattle.centre.specs.declared.ending.Stop.TheVariants.{Refused, ReadFault, WriteFault, OutOfMemory}
 use Rattle.centre.specs.Answers.{epoch}
 use Rattle.centre.specs.Intake.{AreAsked, IsShelved, Passes, IsCutTo, IsRestRefused, HasTaken, IntakeStops, with_asked}
-use Rattle.centre.proofs.Inputs.{had_all, had_more, Consumes-then}
-use Rattle.centre.specs.Transfer.{HadMore}
+use Rattle.centre.proofs.Inputs.{had_all, had_more}
+use Rattle.streams.proofs.Grows.{Consumes-then}
+use Rattle.streams.specs.View.{StreamView}
+use Rattle.centre.specs.Had.{HadMore}
 
 pub shelf_begins : (query : DataQuery) (held : List Row) → held ≡ [] → IsShelved query [] [] 0 held
 shelf_begins query held none = record {
@@ -167,25 +169,25 @@ taken_all query left after total rest place fault held end none far = record {
   asked = shelf_ends query far.input rest place held none far.shelved;
 }
 
-pub taken_bad : (query : DataQuery) (left after : Option (List ℕ)) (before now total : ℕ) (rest : List ℕ) (place : ℕ) (fault : Option RecordFault) (held : List Row) (stop : Stop) → IsAtEnd after → IsRestRefused rest total stop
-    → IsTaken query left after total rest place fault held → IntakeStops left before now stop
-taken_bad query left after before now total rest place fault held (Refused (Record at why)) end bad far =
+pub taken_bad : (query : DataQuery) (old new : StreamView) (total : ℕ) (rest : List ℕ) (place : ℕ) (fault : Option RecordFault) (held : List Row) (stop : Stop) → IsAtEnd new.left → IsRestRefused rest total stop
+    → IsTaken query old.left new.left total rest place fault held → IntakeStops old new stop
+taken_bad query old new total rest place fault held (Refused (Record at why)) end bad far =
     let first = bad_behind query far.input rest place held why bad.1 bad.2 far.shelved in
     let offset : at ≡ length far.input - length rest = omega (arith, bad.0, far.total_is) in
     record {
       input = far.input;
-      had = had_all left after far.input far.taken end;
+      had = had_all old.left new.left far.input far.taken end;
       bad = record { within = omega (arith, far.total_is, far.within); first = subst (λ (n : ℕ). IsFirstBad far.input n why) (sym offset) first };
     }
-taken_bad query left after before now total rest place fault held (Refused UnknownCommand) end bad far = absurd bad
-taken_bad query left after before now total rest place fault held (Refused (Value word)) end bad far = absurd bad
-taken_bad query left after before now total rest place fault held (Refused Order) end bad far = absurd bad
-taken_bad query left after before now total rest place fault held (Refused NoData) end bad far = absurd bad
-taken_bad query left after before now total rest place fault held (Refused (TooLarge bytes limit)) end bad far = absurd bad
-taken_bad query left after before now total rest place fault held (Refused InputTooLong) end bad far = absurd bad
-taken_bad query left after before now total rest place fault held ReadFault end bad far = absurd bad
-taken_bad query left after before now total rest place fault held WriteFault end bad far = absurd bad
-taken_bad query left after before now total rest place fault held OutOfMemory end bad far = absurd bad
+taken_bad query old new total rest place fault held (Refused UnknownCommand) end bad far = absurd bad
+taken_bad query old new total rest place fault held (Refused (Value word)) end bad far = absurd bad
+taken_bad query old new total rest place fault held (Refused Order) end bad far = absurd bad
+taken_bad query old new total rest place fault held (Refused NoData) end bad far = absurd bad
+taken_bad query old new total rest place fault held (Refused (TooLarge bytes limit)) end bad far = absurd bad
+taken_bad query old new total rest place fault held (Refused InputTooLong) end bad far = absurd bad
+taken_bad query old new total rest place fault held ReadFault end bad far = absurd bad
+taken_bad query old new total rest place fault held WriteFault end bad far = absurd bad
+taken_bad query old new total rest place fault held OutOfMemory end bad far = absurd bad
 
 -- a last take that gave nothing
 pub taken_none : (query : DataQuery) (left middle after : Option (List ℕ)) (total : ℕ) (rest piece : List ℕ) (place : ℕ) (fault : Option RecordFault) (held : List Row) → Consumes middle after piece → piece ≡ []

@@ -5,6 +5,7 @@ use Rattle.std.specs.List.{slice_get}
 use Rattle.std.specs.Io.KnownBytes.{Consumes, IsAtEnd}
 use Rattle.std.specs.declared.option.Option.{Option}
 use Rattle.exact_time.specs.Causes.{Rose}
+use Rattle.streams.specs.View.{StreamView}
 use Rattle.mseed_header.specs.Header.{RefusesRecord}
 use Rattle.mseed_header.specs.Records.{AreRecords, IsPlaced, images_of}
 use Rattle.mseed_header.specs.declared.header.RecordFault.{RecordFault}
@@ -18,7 +19,7 @@ use Rattle.centre.specs.declared.ending.Refusal.TheVariants.{Record, InputTooLon
 use Rattle.centre.specs.declared.ending.Stop.{Stop}
 use Rattle.centre.specs.declared.ending.Stop.TheVariants.{Refused, ReadFault, OutOfMemory}
 use Rattle.centre.specs.Answers.{HasBadRecord, epoch}
-use Rattle.centre.specs.Transfer.{Had, HadMore}
+use Rattle.centre.specs.Had.{Had, HadMore}
 
 -- of the input's rows these are those that the query asks for, without doubles
 pub record AreAsked (query : DataQuery) (input : List ℕ) (held : List Row) : Type 0 where
@@ -71,9 +72,9 @@ pub record HadBadRecord (left : Option (List ℕ)) (at : ℕ) (fault : RecordFau
   pub bad : HasBadRecord input at fault
 
 -- why an input wasn't taken; want of memory is free
-abbrev pub IntakeStops : Option (List ℕ) → ℕ → ℕ → Stop → Type 0
-IntakeStops left before now ReadFault = Rose before now
-IntakeStops left before now (Refused InputTooLong) = HadMore left most_input
-IntakeStops left before now (Refused (Record at fault)) = HadBadRecord left at fault
-IntakeStops left before now OutOfMemory = ⊤
-IntakeStops left before now _ = ⊥
+abbrev pub IntakeStops : StreamView → StreamView → Stop → Type 0
+IntakeStops old new ReadFault = Rose old.faults new.faults
+IntakeStops old new (Refused InputTooLong) = HadMore old.left most_input
+IntakeStops old new (Refused (Record at fault)) = HadBadRecord old.left at fault
+IntakeStops old new OutOfMemory = ⊤
+IntakeStops old new _ = ⊥

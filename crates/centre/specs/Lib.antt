@@ -1,14 +1,12 @@
 pub mod Answers
 pub mod Arguments
 pub mod Commands
+pub mod Had
 pub mod Intake
 pub mod Limits
-pub mod Memory
 pub mod OptionsLaw
 pub mod Settled
 pub mod Shown
 pub mod Status
-pub mod Streams
 pub mod Table
-pub mod Transfer
 pub mod Words

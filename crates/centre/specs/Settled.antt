@@ -6,9 +6,10 @@ use Rattle.centre.specs.declared.ending.Refusal.TheVariants.{TooLarge}
 use Rattle.centre.specs.Answers.{IsAnswer}
 use Rattle.centre.specs.Commands.{Command}
 use Rattle.centre.specs.Status.{status_of_refusal, text_of_refusal}
-use Rattle.centre.specs.Streams.{Grew}
-use Rattle.centre.specs.Table.{World, Stream, Tells}
-use Rattle.centre.specs.Transfer.{Had, WritesPart}
+use Rattle.streams.specs.Effects.{Grew, WritesPart}
+use Rattle.streams.specs.View.{StreamView}
+use Rattle.centre.specs.Table.{World, Tells}
+use Rattle.centre.specs.Had.{Had}
 
 -- the statuses that words and input don't determine: a fault of the source or the sink, want of memory
 abbrev pub IsFree : ℕ → Type 0
@@ -34,18 +35,18 @@ text_of_answer (Ok body) = []
 text_of_answer (Err refusal) = text_of_refusal refusal
 
 -- the run ended as this answer says
-pub record EndsAs (answer : Result (List ℕ) Refusal) (old new : Stream) (status : ℕ) : Type 0 where
+pub record EndsAs (answer : Result (List ℕ) Refusal) (old new : StreamView) (status : ℕ) : Type 0 where
   pub status_is : status ≡ status_of_answer answer
   pub text : Tells old new (text_of_answer answer)
 
 -- What the words and the input determine decides: the run ended so, unless it stopped at a fault or for
 -- want of memory.
-abbrev pub IsSettled : Option Command → List ℕ → Stream → Stream → ℕ → Type 0
+abbrev pub IsSettled : Option Command → List ℕ → StreamView → StreamView → ℕ → Type 0
 IsSettled command input old new status =
     (answer : Result (List ℕ) Refusal) → IsAnswer command input answer → IsFree status ⊎ EndsAs answer old new status
 
 -- Where neither the source nor the sink failed, the run ended as the answer says, unless memory ran out.
-abbrev pub IsComplete : Option Command → List ℕ → World → World → Stream → Stream → ℕ → Type 0
+abbrev pub IsComplete : Option Command → List ℕ → World → World → StreamView → StreamView → ℕ → Type 0
 IsComplete command input before after old new status =
     ¬ (Rose before.source.faults after.source.faults) → ¬ (Rose before.sink.faults after.sink.faults)
     → (answer : Result (List ℕ) Refusal) → IsAnswer command input answer → (status ≡ 70) ⊎ EndsAs answer old new status
@@ -54,9 +55,9 @@ IsComplete command input before after old new status =
 pub record HasWritten (command : Option Command) (before after : World) : Type 0 where
   pub input : List ℕ
   pub body : List ℕ
-  pub had : Had before.source.bytes input
+  pub had : Had before.source.left input
   pub answer : IsAnswer command input (Ok body)
-  pub output : Grew before.sink.bytes after.sink.bytes body
+  pub output : Grew before.sink.written after.sink.written body
 
 -- a word of the query, the order of its times or a record of the input is refused
 pub record IsRefused (command : Option Command) (input : List ℕ) : Type 0 where
@@ -74,7 +75,7 @@ pub record IsTooLarge (command : Option Command) (input : List ℕ) : Type 0 whe
 pub record IsCutShort (command : Option Command) (before after : World) : Type 0 where
   pub input : List ℕ
   pub body : List ℕ
-  pub had : Had before.source.bytes input
+  pub had : Had before.source.left input
   pub answer : IsAnswer command input (Ok body)
   pub rose : Rose before.sink.faults after.sink.faults
-  pub output : WritesPart before.sink.bytes after.sink.bytes body
+  pub output : WritesPart before.sink.written after.sink.written body

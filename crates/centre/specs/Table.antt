@@ -11,24 +11,17 @@ use Rattle.centre.specs.Answers.{RefusesInput, IsSelectAnswer}
 use Rattle.centre.specs.Commands.{SelectWords, Command, select, show}
 use Rattle.centre.specs.Shown.{text_shown}
 use Rattle.centre.specs.Status.{status_of_run, text_of_run}
-use Rattle.centre.specs.Streams.{Grew}
-use Rattle.centre.specs.Transfer.{Had, WritesPart}
+use Rattle.streams.specs.Effects.{Grew, WritesPart}
+use Rattle.streams.specs.View.{StreamView}
+use Rattle.centre.specs.Had.{Had}
 use Rattle.centre.specs.Words.{IsSelectQuery, RefusesSelectWords}
 
--- what is known of a source or a sink at one moment: the bytes left or written, and its faults
-pub record Stream : Type 0 where
-  pub bytes : Option (List ℕ)
-  pub faults : ℕ
-
-abbrev pub stream : {X : Type 0} → (X → Option (List ℕ)) → (X → ℕ) → X → Stream
-stream bytes faults x = record { bytes = bytes x; faults = faults x }
-
--- the source and the sink at one moment
+-- what is told of the source and the sink at one moment
 pub record World : Type 0 where
-  pub source : Stream
-  pub sink : Stream
+  pub source : StreamView
+  pub sink : StreamView
 
-abbrev pub world : Stream → Stream → World
+abbrev pub world : StreamView → StreamView → World
 world source sink = record { source = source; sink = sink }
 
 -- Status 0 of `select`: the input was read to its end, and the sink got the body that the words and the
@@ -36,10 +29,10 @@ world source sink = record { source = source; sink = sink }
 pub record IsSelected (w : SelectWords) (before after : World) : Type 0 where
   pub input : List ℕ
   pub body : List ℕ
-  pub had : Had before.source.bytes input
+  pub had : Had before.source.left input
   pub answer : IsSelectAnswer w input (Ok body)
-  pub end : IsAtEnd after.source.bytes
-  pub output : Grew before.sink.bytes after.sink.bytes body
+  pub end : IsAtEnd after.source.left
+  pub output : Grew before.sink.written after.sink.written body
 
 -- the words are refused: nothing is read, and nothing is written
 pub record IsRefusedByWords (w : SelectWords) (before after : World) (refusal : Refusal) : Type 0 where
@@ -50,7 +43,7 @@ pub record IsRefusedByWords (w : SelectWords) (before after : World) (refusal : 
 pub record IsRefusedByInput (w : SelectWords) (before after : World) (refusal : Refusal) : Type 0 where
   pub input : List ℕ
   pub query : DataQuery
-  pub had : Had before.source.bytes input
+  pub had : Had before.source.left input
   pub asked : IsSelectQuery w query
   pub why : RefusesInput query w.limit input refusal
   pub kept : after.sink ≡ before.sink
@@ -66,10 +59,10 @@ pub record IsReadStopped (w : SelectWords) (before after : World) : Type 0 where
 pub record IsWriteStopped (w : SelectWords) (before after : World) : Type 0 where
   pub input : List ℕ
   pub body : List ℕ
-  pub had : Had before.source.bytes input
+  pub had : Had before.source.left input
   pub answer : IsSelectAnswer w input (Ok body)
   pub rose : Rose before.sink.faults after.sink.faults
-  pub output : WritesPart before.sink.bytes after.sink.bytes body
+  pub output : WritesPart before.sink.written after.sink.written body
 
 -- the rows of `select`; want of memory is free, and leaves the sink as it was
 abbrev pub SelectRow : SelectWords → World → World → Result (Unit {0}) Stop → Type 0
@@ -83,13 +76,13 @@ SelectRow w before after (Err OutOfMemory) = after.sink ≡ before.sink
 -- a text is shown: nothing is read, and the sink got the text
 pub record IsShown (text : List ℕ) (before after : World) : Type 0 where
   pub unread : after.source ≡ before.source
-  pub output : Grew before.sink.bytes after.sink.bytes text
+  pub output : Grew before.sink.written after.sink.written text
 
 -- showing stopped at a fault of the sink, after a first part of the text
 pub record IsShowStopped (text : List ℕ) (before after : World) : Type 0 where
   pub unread : after.source ≡ before.source
   pub rose : Rose before.sink.faults after.sink.faults
-  pub output : WritesPart before.sink.bytes after.sink.bytes text
+  pub output : WritesPart before.sink.written after.sink.written text
 
 -- the rows of a command that shows a text
 abbrev pub ShowRow : List ℕ → World → World → Result (Unit {0}) Stop → Type 0
@@ -115,12 +108,12 @@ ToldFor (Refused (TooLarge bytes limit)) told = (told ≡ Refused (TooLarge byte
 ToldFor stop told = told ≡ stop
 
 -- the text was written, or a first part of it where the stream failed
-pub record Tells (old new : Stream) (text : List ℕ) : Type 0 where
-  pub part : WritesPart old.bytes new.bytes text
-  pub whole : Grew old.bytes new.bytes text ⊎ Rose old.faults new.faults
+pub record Tells (old new : StreamView) (text : List ℕ) : Type 0 where
+  pub part : WritesPart old.written new.written text
+  pub whole : Grew old.written new.written text ⊎ Rose old.faults new.faults
 
 -- a run from one moment to another with this status, and what it writes on the errors
-pub record IsRun (command : Option Command) (before after : World) (old new : Stream) (status : ℕ) : Type 0 where
+pub record IsRun (command : Option Command) (before after : World) (old new : StreamView) (status : ℕ) : Type 0 where
   pub ending : Result (Unit {0}) Stop
   pub row : IsEnding command before after ending
   pub status_is : status ≡ status_of_run ending

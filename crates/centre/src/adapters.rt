@@ -1,12 +1,12 @@
 //! Adapters over std's readers and writers. They count each error, and tell what the reader or the writer
 //! tells: of one in memory the bytes, of a real stream nothing.
 ghost use Rattle.std.specs.Prelude.{◌≡◌, None, IsSome, IsTrue};
-ghost use Rattle.exact_time.specs.Causes.{HasCause};
-ghost use Rattle.centre.specs.Streams.{Puts, told_by};
+ghost use Rattle.streams.specs.Effects.{Puts};
+ghost use Rattle.streams.specs.View.{told_if};
 
-use crate::streams::{Sink, Source};
 use exact_time::Failed;
 use std::io::{Read, Write};
+use streams::{Sink, Source, Stream};
 
 /// A source over a reader, as standard input. What it tells is what the reader tells.
 #[derive(Drop)]
@@ -18,18 +18,21 @@ pub struct StdSource<R> {
 impl<R: Read> StdSource<R> {
     /// A source that gives what the reader gives.
     pub fn new(inner: R) -> Self
-        ensures left { ⟦<StdSource<R> as Source>⟧.left result ≡ R.remaining inner }
-        ensures faults { ⟦<StdSource<R> as Source>⟧.faults result ≡ 0 }
+        ensures { ⟦<StdSource<R> as Stream>⟧.view result ≡ record { left = R.remaining inner; written = None; faults = 0 } }
     {
         StdSource { inner, faults: 0 }
     }
 }
 
+impl<R: Read> Stream for StdSource<R> {
+    ghost view = { λ s. record { left = R.remaining s.inner; written = None; faults = s.faults } };
+
+    fn faults(&self) -> u64 {
+        self.faults
+    }
+}
+
 impl<R: Read> Source for StdSource<R> {
-    ghost left = { λ s. R.remaining s.inner };
-
-    ghost faults = { λ s. s.faults };
-
     fn take(&mut self, into: &mut [u8]) -> Result<usize, Failed> {
         match self.inner.read(into) {
             Ok(count) => Ok(count),
@@ -55,8 +58,7 @@ impl<W: Write> StdSink<W> {
     /// A sink that gives to any writer, and tells nothing: a writer that doesn't say what it holds may
     /// say it later.
     pub fn new(inner: W) -> Self
-        ensures written { ⟦<StdSink<W> as Sink>⟧.written result ≡ None }
-        ensures faults { ⟦<StdSink<W> as Sink>⟧.faults result ≡ 0 }
+        ensures { ⟦<StdSink<W> as Stream>⟧.view result ≡ record { left = None; written = None; faults = 0 } }
     {
         StdSink {
             inner,
@@ -67,9 +69,8 @@ impl<W: Write> StdSink<W> {
 
     /// A sink that gives to a writer whose bytes are known, as a `Vec`, and tells them.
     pub fn telling(inner: W) -> Self
-        requires known { IsSome (W.contents inner) }
-        ensures written { ⟦<StdSink<W> as Sink>⟧.written result ≡ W.contents inner }
-        ensures faults { ⟦<StdSink<W> as Sink>⟧.faults result ≡ 0 }
+        requires { IsSome (W.contents inner) }
+        ensures { ⟦<StdSink<W> as Stream>⟧.view result ≡ record { left = None; written = W.contents inner; faults = 0 } }
     {
         StdSink {
             inner,
@@ -79,15 +80,18 @@ impl<W: Write> StdSink<W> {
     }
 }
 
+impl<W: Write> Stream for StdSink<W> {
+    ghost view = { λ s. record { left = None; written = told_if s.tells (W.contents s.inner); faults = s.faults } };
+
+    fn faults(&self) -> u64 {
+        self.faults
+    }
+}
+
 impl<W: Write> Sink for StdSink<W> {
-    ghost written = { λ s. told_by s.tells (W.contents s.inner) };
-
-    ghost faults = { λ s. s.faults };
-
     fn put(&mut self, piece: &[u8]) -> Result<usize, Failed>
-        ensures tells { IsSome (⟦<StdSink<W> as Sink>⟧.written self.old) → IsSome (⟦<StdSink<W> as Sink>⟧.written self.new) }
-        ensures bytes { Puts (⟦<StdSink<W> as Sink>⟧.written self.old) (⟦<StdSink<W> as Sink>⟧.written self.new) result piece.now }
-        ensures cause { HasCause (⟦<StdSink<W> as Sink>⟧.faults self.old) (⟦<StdSink<W> as Sink>⟧.faults self.new) result }
+        ensures tells { IsSome (⟦<StdSink<W> as Stream>⟧.view self.old).written → IsSome (⟦<StdSink<W> as Stream>⟧.view self.new).written }
+        ensures put { Puts (⟦<StdSink<W> as Stream>⟧.view self.old) (⟦<StdSink<W> as Stream>⟧.view self.new) result piece.now }
     {
         if piece.is_empty() {
             return Ok(0);

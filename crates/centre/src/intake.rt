@@ -1,19 +1,20 @@
 //! Takes an input in pieces, and puts the records that a query asks for on a shelf. What was cut into
 //! records isn't held any longer.
-ghost use Rattle.std.specs.Prelude.{◌≡◌, ◌+◌, ◌^◌, ◌<◌, ◌≤◌, ℕ, List, [], ◌++◌, length, drop, OnOk, IfOk, IfErr};
+ghost use Rattle.std.specs.Prelude.{◌≡◌, ◌+◌, ◌^◌, ◌<◌, ◌≤◌, ℕ, List, [], ◌++◌, length, drop, OnOk, IfOk, IfErr, Err};
 ghost use Rattle.mseed_header.specs.Header.{IsRecord};
 ghost use Rattle.mseed_header.specs.Records.{IsPlaced};
 ghost use Rattle.mseed_header.specs.declared.row.Row.{Row};
 ghost use Rattle.centre.specs.Answers.{epoch};
+ghost use Rattle.streams.specs.Effects.{OnlyTakes};
 ghost use Rattle.centre.specs.Intake.{with_asked, Passes, IsCutTo, IsRestRefused, HasTaken, IntakeStops};
 
 use crate::MAX_INPUT;
 use crate::ending::{Refusal, Stop};
-use crate::streams::Source;
 use dataselect::{DataQuery, Shelf};
 use exact_time::{Bytes, Moment, OutOfMemory};
 use mseed_header::{Header, RecordFault, Row, read_header};
 use std::alloc::Global;
+use streams::Source;
 
 // How many bytes a call of `take` is lent.
 const PIECE: usize = 65_536;
@@ -203,9 +204,9 @@ pub fn take_records<S: Source, H: Shelf>(
     shelf: &mut H,
 ) -> Result<(), Stop>
     requires empty { H.rows shelf.old ≡ [] }
-    ensures taken { OnOk result (HasTaken query.now (S.left source.old) (S.left source.new) (H.rows shelf.new)) }
-    ensures stops { IfErr result (IntakeStops (S.left source.old) (S.faults source.old) (S.faults source.new)) }
-    ensures later { S.faults source.old ≤ S.faults source.new }
+    ensures taken { OnOk result (HasTaken query.now (S.view source.old).left (S.view source.new).left (H.rows shelf.new)) }
+    ensures stops { IfErr result (IntakeStops (S.view source.old) (S.view source.new)) }
+    ensures takes { OnlyTakes (S.view source.old) (S.view source.new) (result ≡ Err Stop.ReadFault) }
 {
     let mut intake = Intake {
         rest: Bytes::new(alloc),

@@ -6,8 +6,9 @@
 //! comes where its cause holds (`specs/Settled.antt`), and leaves what the table says
 //! (`specs/Table.antt`).
 //!
-//! [`Source`] and [`Sink`] are what it needs of the outside. [`MemorySource`] and [`MemorySink`] are
-//! such objects in memory, [`StdSource`] and [`StdSink`] adapters over std's readers and writers.
+//! [`Source`] and [`Sink`], which are those of `streams`, are what it needs of the outside.
+//! [`MemorySource`] and [`MemorySink`] are such objects in memory, [`StdSource`] and [`StdSink`] adapters
+//! over std's readers and writers.
 #![tactic(auto)]
 
 mod adapters;
@@ -16,22 +17,18 @@ mod ending;
 mod help;
 mod intake;
 mod law;
-mod memory;
 mod running;
-mod streams;
 mod telling;
 #[cfg(test)]
 mod tests;
-mod transfer;
 mod words;
 
 pub use adapters::{StdSink, StdSource};
 pub use ending::{Refusal, Stop, Word};
 pub use help::{HELP, SELECT_HELP, Shown, VERSION};
 pub use law::{one_answer_at_most, options_are_named_values, some_answer};
-pub use memory::{MemorySink, MemorySource};
 pub use running::run;
-pub use streams::{Sink, Source};
+pub use streams::{MemorySink, MemorySource, Sink, Source, Stream};
 pub use telling::out_of_memory;
 
 /// How many bytes the input of `select` may have.

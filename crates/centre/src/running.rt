@@ -5,17 +5,16 @@ ghost use Rattle.centre.specs.Answers.{IsAnswer, stop_for_data};
 ghost use Rattle.centre.specs.Commands.{command_of};
 ghost use Rattle.centre.specs.Arguments.{words_at};
 ghost use Rattle.centre.specs.Settled.{Told, ComesWhere, IsComplete, IsCutShort, IsSettled, HasWritten, IsRefused, IsTooLarge};
-ghost use Rattle.centre.specs.Table.{IsRun, IsEnding, SelectRow, ShowRow, stream, world};
+ghost use Rattle.centre.specs.Table.{IsRun, IsEnding, SelectRow, ShowRow, world};
 
 use crate::commands::{CommandWords, SelectArguments, command_in};
 use crate::ending::{Refusal, Stop};
 use crate::intake::take_records;
-use crate::streams::{Sink, Source};
 use crate::telling::tell_stop;
-use crate::transfer::put_all;
 use crate::words::select_query;
 use dataselect::{All, DataRefusal, answer};
 use std::alloc::Global;
+use streams::{Sink, Source, put_all};
 use time_index::IndexedShelf;
 
 // How a refusal of the answer stops the run.
@@ -37,8 +36,7 @@ fn select<S: Source, K: Sink>(
     sink: &mut K,
 ) -> Result<(), Stop>
     ensures row { SelectRow (words_at arguments.now)
-        (world (stream S.left S.faults source.old) (stream K.written K.faults sink.old))
-        (world (stream S.left S.faults source.new) (stream K.written K.faults sink.new))
+        (world (S.view source.old) (K.view sink.old)) (world (S.view source.new) (K.view sink.new))
         result }
 {
     let query = match select_query(alloc, arguments) {
@@ -63,8 +61,7 @@ fn select<S: Source, K: Sink>(
 // A command that shows a text, by the same path as data.
 fn show<S: Source, K: Sink>(text: &str, source: &S, sink: &mut K) -> Result<(), Stop>
     ensures row { ShowRow text.now
-        (world (stream S.left S.faults source.now) (stream K.written K.faults sink.old))
-        (world (stream S.left S.faults source.now) (stream K.written K.faults sink.new))
+        (world (S.view source.now) (K.view sink.old)) (world (S.view source.now) (K.view sink.new))
         result }
 {
     match put_all(sink, text.as_bytes()) {
@@ -81,8 +78,7 @@ fn obey<S: Source, K: Sink>(
     sink: &mut K,
 ) -> Result<(), Stop>
     ensures row { IsEnding (command_of (map string_bytes words.now))
-        (world (stream S.left S.faults source.old) (stream K.written K.faults sink.old))
-        (world (stream S.left S.faults source.new) (stream K.written K.faults sink.new))
+        (world (S.view source.old) (K.view sink.old)) (world (S.view source.new) (K.view sink.new))
         result }
 {
     match command_in(words) {
@@ -115,40 +111,36 @@ pub fn run<R, S: Source, K: Sink, E: Sink>(
 ) -> u8
     // One row of the table holds, and the errors got its text.
     ensures table { IsRun (command_of (map string_bytes words.now))
-        (world (stream S.left S.faults source.old) (stream K.written K.faults sink.old))
-        (world (stream S.left S.faults source.new) (stream K.written K.faults sink.new))
-        (stream E.written E.faults errors.old) (stream E.written E.faults errors.new)
+        (world (S.view source.old) (K.view sink.old)) (world (S.view source.new) (K.view sink.new))
+        (E.view errors.old) (E.view errors.new)
         result }
 
     // The other way round: what the words and the input determine is what comes, with its text, unless
     // the source or the sink failed or memory ran out.
-    ensures settled { Told (S.left source.old) (λ input. IsSettled (command_of (map string_bytes words.now)) input
-        (stream E.written E.faults errors.old) (stream E.written E.faults errors.new) result) }
+    ensures settled { Told (S.view source.old).left (λ input. IsSettled (command_of (map string_bytes words.now)) input
+        (E.view errors.old) (E.view errors.new) result) }
 
-    ensures complete { Told (S.left source.old) (λ input. IsComplete (command_of (map string_bytes words.now)) input
-        (world (stream S.left S.faults source.old) (stream K.written K.faults sink.old))
-        (world (stream S.left S.faults source.new) (stream K.written K.faults sink.new))
-        (stream E.written E.faults errors.old) (stream E.written E.faults errors.new) result) }
+    ensures complete { Told (S.view source.old).left (λ input. IsComplete (command_of (map string_bytes words.now)) input
+        (world (S.view source.old) (K.view sink.old)) (world (S.view source.new) (K.view sink.new))
+        (E.view errors.old) (E.view errors.new) result) }
 
     // With every status but 0 and 6 the sink is as before.
-    ensures kept { result ≢ 0 → result ≢ 6 → stream K.written K.faults sink.new ≡ stream K.written K.faults sink.old }
+    ensures kept { result ≢ 0 → result ≢ 6 → K.view sink.new ≡ K.view sink.old }
 
     // The rows that a reader looks for.
     ensures written { result ≡ 0 → HasWritten (command_of (map string_bytes words.now))
-        (world (stream S.left S.faults source.old) (stream K.written K.faults sink.old))
-        (world (stream S.left S.faults source.new) (stream K.written K.faults sink.new)) }
+        (world (S.view source.old) (K.view sink.old)) (world (S.view source.new) (K.view sink.new)) }
     ensures unknown { (result ≡ 1) ↔ (command_of (map string_bytes words.now) ≡ None) }
-    ensures refused { Told (S.left source.old)
+    ensures refused { Told (S.view source.old).left
         (λ input. ComesWhere result 2 (IsRefused (command_of (map string_bytes words.now)) input)) }
-    ensures no_data { Told (S.left source.old)
+    ensures no_data { Told (S.view source.old).left
         (λ input. ComesWhere result 3 (IsAnswer (command_of (map string_bytes words.now)) input (Err Refusal.NoData))) }
-    ensures too_large { Told (S.left source.old)
+    ensures too_large { Told (S.view source.old).left
         (λ input. ComesWhere result 4 (IsTooLarge (command_of (map string_bytes words.now)) input)) }
-    ensures read_fault { result ≡ 5 → Rose (S.faults source.old) (S.faults source.new) }
+    ensures read_fault { result ≡ 5 → Rose (S.view source.old).faults (S.view source.new).faults }
     ensures write_fault { result ≡ 6 → IsCutShort (command_of (map string_bytes words.now))
-        (world (stream S.left S.faults source.old) (stream K.written K.faults sink.old))
-        (world (stream S.left S.faults source.new) (stream K.written K.faults sink.new)) }
-    ensures too_long { Told (S.left source.old)
+        (world (S.view source.old) (K.view sink.old)) (world (S.view source.new) (K.view sink.new)) }
+    ensures too_long { Told (S.view source.old).left
         (λ input. ComesWhere result 10 (IsAnswer (command_of (map string_bytes words.now)) input (Err Refusal.InputTooLong))) }
 {
     match obey(alloc, words, source, sink) {

@@ -1,13 +1,12 @@
 //! Tells why a run stopped.
 ghost use Rattle.std.specs.Prelude.{◌≡◌, ◌⊎◌, string_bytes, IfOk};
 ghost use Rattle.centre.specs.Status.{name_of_word, name_of_fault, error_text_of, text_of_refusal};
-ghost use Rattle.centre.specs.Table.{Tells, ToldFor, stream};
+ghost use Rattle.centre.specs.Table.{Tells, ToldFor};
 
 use crate::ending::{Refusal, Stop, Word};
-use crate::streams::Sink;
-use crate::transfer::put_all;
 use mseed_header::RecordFault;
 use std::alloc::{AllocError, Global};
+use streams::{Sink, put_all};
 
 const MEMORY_TEXT: &str = "centre: out of memory\n";
 
@@ -65,7 +64,7 @@ fn size_text(alloc: Global, bytes: u64, limit: u64) -> Result<String, AllocError
 
 // Writes a text, as far as the errors take it.
 fn tell<E: Sink>(errors: &mut E, text: &str)
-    ensures { Tells (stream E.written E.faults errors.old) (stream E.written E.faults errors.new) text.now }
+    ensures { Tells (E.view errors.old) (E.view errors.new) text.now }
 {
     let _ = put_all(errors, text.as_bytes());
 }
@@ -74,7 +73,7 @@ fn tell<E: Sink>(errors: &mut E, text: &str)
 fn tell_made<E: Sink>(errors: &mut E, refusal: Refusal, made: Result<String, AllocError>) -> Stop
     requires { IfOk made (λ text. string_bytes text ≡ text_of_refusal refusal) }
     ensures same { (result ≡ Stop.Refused refusal) ⊎ (result ≡ Stop.OutOfMemory) }
-    ensures text { Tells (stream E.written E.faults errors.old) (stream E.written E.faults errors.new)
+    ensures text { Tells (E.view errors.old) (E.view errors.new)
         (error_text_of result) }
 {
     match made {
@@ -92,7 +91,7 @@ fn tell_made<E: Sink>(errors: &mut E, refusal: Refusal, made: Result<String, All
 // Tells a refusal. Only a text with numbers wants memory.
 fn tell_refusal<E: Sink>(alloc: Global, errors: &mut E, refusal: Refusal) -> Stop
     ensures same { ToldFor (Stop.Refused refusal) result }
-    ensures text { Tells (stream E.written E.faults errors.old) (stream E.written E.faults errors.new)
+    ensures text { Tells (E.view errors.old) (E.view errors.new)
         (error_text_of result) }
 {
     match refusal {
@@ -114,7 +113,7 @@ fn tell_refusal<E: Sink>(alloc: Global, errors: &mut E, refusal: Refusal) -> Sto
 /// Tells why a run stopped, and answers what it told.
 pub fn tell_stop<E: Sink>(alloc: Global, errors: &mut E, stop: Stop) -> Stop
     ensures same { ToldFor stop result }
-    ensures text { Tells (stream E.written E.faults errors.old) (stream E.written E.faults errors.new)
+    ensures text { Tells (E.view errors.old) (E.view errors.new)
         (error_text_of result) }
 {
     match stop {
@@ -129,7 +128,7 @@ pub fn tell_stop<E: Sink>(alloc: Global, errors: &mut E, stop: Stop) -> Stop
 /// Tells that memory ran out, and answers the exit status for it.
 pub fn out_of_memory<E: Sink>(errors: &mut E) -> u8
     ensures status { result ≡ 70 }
-    ensures text { Tells (stream E.written E.faults errors.old) (stream E.written E.faults errors.new)
+    ensures text { Tells (E.view errors.old) (E.view errors.new)
         (error_text_of Stop.OutOfMemory) }
 {
     tell(errors, MEMORY_TEXT);

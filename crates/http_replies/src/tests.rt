@@ -1,7 +1,7 @@
 //! Replies as they are written, byte for byte.
 ghost use Rattle.std.specs.Prelude.{◌≡◌, true, IfOk};
 ghost use Rattle.http_replies.specs.Replies.{is_status, IsSendable};
-ghost use Rattle.http_wire.specs.Memory.{left_of_link, written_of_link, faults_of_link};
+ghost use Rattle.streams.specs.Memory.{link_view};
 
 use crate::samples::{
     ASKED, BOTH, EMPTY, GET_ALONE, HEAD_ONLY, NO_CONTENT, NO_MEMORY, POST_ALONE, STALE, VERSION,
@@ -9,10 +9,10 @@ use crate::samples::{
 use crate::{Allow, BodyKind, Reply, write_reply};
 use exact_time::{Bytes, Failed, Many, OutOfMemory};
 use http_digest::Challenge;
-use http_wire::{Link, MemoryLink};
 use std::alloc::Global;
 use std::process::Abort;
 use std::test::Fail;
+use streams::{Link, MemoryLink, Sink, Source, Stream};
 
 fn bytes_of(alloc: Global, text: &[u8]) -> Result<Bytes, OutOfMemory> {
     let mut bytes = Bytes::new(alloc);
@@ -194,22 +194,28 @@ struct OneByte {
     link: MemoryLink,
 }
 
-impl Link for OneByte {
-    ghost left = { λ one. left_of_link one.link };
+impl Stream for OneByte {
+    ghost view = { λ one. link_view one.link };
 
-    ghost written = { λ one. written_of_link one.link };
+    fn faults(&self) -> u64 {
+        self.link.faults()
+    }
+}
 
-    ghost faults = { λ one. faults_of_link one.link };
-
+impl Source for OneByte {
     fn take(&mut self, into: &mut [u8]) -> Result<usize, Failed> {
         self.link.take(into)
     }
+}
 
+impl Sink for OneByte {
     fn put(&mut self, piece: &[u8]) -> Result<usize, Failed> {
         let size = piece.len().min(1);
         self.link.put(&piece[..size])
     }
 }
+
+impl Link for OneByte {}
 
 #[test]
 fn a_fault_leaves_a_first_part(rt: HostRuntime) -> Result<(), Fail> {

@@ -1,17 +1,16 @@
 //! Writes a reply to a link.
-ghost use Rattle.std.specs.Prelude.{◌≡◌, ◌≤◌, length, OnOk, OnErr};
-ghost use Rattle.exact_time.specs.Causes.{HasCause};
-ghost use Rattle.http_wire.specs.Streams.{Gained, WritesFront};
+ghost use Rattle.std.specs.Prelude.{◌≡◌, ◌≤◌, length};
 ghost use Rattle.http_replies.specs.HeadTexts.{head_limit};
 ghost use Rattle.http_replies.specs.Replies.{IsSendable, reply_head, reply_bytes, sent_body};
+ghost use Rattle.streams.specs.Effects.{PutsAll};
 
 use crate::head_text::HeadText;
 use crate::lines::{begun, body_of, push_allow, push_challenge, push_close, push_content};
 use crate::reply::Reply;
 use exact_time::Failed;
-use http_wire::{Link, put_all};
 use std::error::Error;
 use std::fmt;
+use streams::{Link, put_all};
 
 /// The link failed while a reply was written.
 #[derive(Clone, Copy, Debug, PartialEq, Eq)]
@@ -61,11 +60,8 @@ fn sent_body(reply: &Reply) -> &[u8]
 /// say what is allowed.
 pub fn write_reply<L: Link>(link: &mut L, reply: &Reply) -> Result<(), LinkFault>
     requires sendable { IsSendable reply.now }
-    ensures ok { OnOk result (Gained (L.written link.old) (L.written link.new) (reply_bytes reply.now)) }
-    ensures part { OnErr result (WritesFront (L.written link.old) (L.written link.new) (reply_bytes reply.now)) }
+    ensures written { PutsAll (L.view link.old) (L.view link.new) result (reply_bytes reply.now) }
     ensures head { length (reply_head reply.now) ≤ head_limit }
-    ensures kept { L.left link.new ≡ L.left link.old }
-    ensures cause { HasCause (L.faults link.old) (L.faults link.new) result }
 {
     let head = head_of(reply);
     put_all(link, head.as_slice())?;

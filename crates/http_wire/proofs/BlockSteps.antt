@@ -1,7 +1,7 @@
 -- No block ends at a place, or at a place behind, also where more bytes come.
-use Rattle.std.proofs.Common.{◌≡◌, ℕ, ◌+◌, ◌<◌, ◌≤◌, inl, inr, List, [], ◌∷◌, ◌++◌, length, take, sym, subst, arith, length-append, length-take, ap, append_assoc, ◌∙◌, None, Some}
+use Rattle.std.proofs.Common.{◌≡◌, ℕ, ◌+◌, ◌<◌, ◌≤◌, inl, inr, List, [], ◌∷◌, ◌++◌, length, take, sym, subst, arith, length-append, length-take, ap, append_assoc, ◌∙◌}
 use Rattle.std.specs.declared.option.Option.{Option}
-use Rattle.std.specs.Io.KnownBytes.{Consumes}
+use Rattle.streams.proofs.Grows.{Consumes-then}
 use Rattle.http_wire.specs.Taking.{TookMore}
 use Rattle.std.proofs.lemmas.List.{take-append-le}
 use Rattle.std.proofs.lemmas.Bool.{cases_eq, cases_lt}
@@ -60,12 +60,6 @@ late text seen limit n e lt b =
     let c = subst P e b in
     let w = c.within in
     (omega arith, ends_late text limit n lt c)
-
-pub Consumes-then : (a b c : Option (List ℕ)) (p q : List ℕ) → Consumes a b p → Consumes b c q → Consumes a c (p ++ q)
-Consumes-then None b c p q h k = tt
-Consumes-then (Some xs) None c p q h k = absurd h
-Consumes-then (Some xs) (Some ys) None p q h k = absurd k
-Consumes-then (Some xs) (Some ys) (Some zs) p q h k = h ∙ ap (λ (s : List ℕ). p ++ s) k ∙ sym (append_assoc p q zs)
 
 -- what was taken before, and what was taken then
 pub took_then : (a b c : Option (List ℕ)) (old mid new : List ℕ) → TookMore a b old mid → TookMore b c mid new → TookMore a c old new

@@ -11,7 +11,7 @@ use Rattle.http_wire.specs.Fronts.{is_blank_byte, begins_blank, FrontStops}
 use Rattle.http_wire.specs.Taking.{TookMore, Moved, StopsAs, skip_blank, LetGo, Skipped, FrontRead, front_size}
 use Rattle.http_wire.specs.declared.block.BlockEnd.{BlockEnd}
 use Rattle.http_wire.specs.declared.block.BlockEnd.TheVariants.{Block, Long, Ended}
-use Rattle.http_wire.proofs.BlockSteps.{Consumes-then}
+use Rattle.streams.proofs.Grows.{Consumes-then}
 
 skip_starts_at : (b : ℕ) (bs : List ℕ) (t : Bool) → is_blank_byte b ≡ t → begins_blank (skip_blank bs) ≡ false → begins_blank (if is_blank_byte b then skip_blank bs else b ∷ bs) ≡ false
 skip_starts_at b bs true e ih = rw e ih

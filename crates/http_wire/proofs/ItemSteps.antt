@@ -3,12 +3,12 @@ use Rattle.std.proofs.Common.{◌≡◌, ℕ, ◌+◌, ◌<◌, ◌≤◌, ◌�
 use Rattle.std.specs.declared.option.Option.{Option}
 use Rattle.std.specs.Io.KnownBytes.{IsAtEnd}
 use Rattle.std.proofs.lemmas.List.{take-append-le, length-take-le, take-append-drop}
+use Rattle.streams.specs.Effects.{Grew, WritesPart}
 use Rattle.http_wire.specs.Blocks.{IsBlock}
 use Rattle.http_wire.specs.Fronts.{front_limit, has_long_target, FrontStops, IsFront}
 use Rattle.http_wire.specs.Heads.{HeadView, FrontSays, KindSays, or_ends, body_length, interim_of}
 use Rattle.http_wire.specs.HeadReading.{IsWholeBlock, StopsBySaying}
 use Rattle.http_wire.specs.Requests.{TellsHead, GivesRequest, IsSpent, StopsAtFront, StopsInBody, ReadsHead, StopsSo, stop_of, EndsSo, told_stop}
-use Rattle.http_wire.specs.Streams.{Gained, WritesFront}
 use Rattle.http_wire.specs.Taking.{TookMore, AtEndIf, FrontRead}
 use Rattle.http_wire.specs.declared.block.BlockEnd.{BlockEnd}
 use Rattle.http_wire.specs.declared.block.BlockEnd.TheVariants.{Block, Long, Ended}
@@ -21,7 +21,7 @@ use Rattle.http_wire.specs.declared.front.Front.{Front}
 use Rattle.http_wire.specs.declared.request.Request.{Request}
 use Rattle.http_wire.specs.declared.taking.TakeStop.{TakeStop}
 use Rattle.http_wire.specs.declared.taking.TakeStop.TheVariants as from
-use Rattle.http_wire.proofs.BlockSteps.{Consumes-then}
+use Rattle.streams.proofs.Grows.{Consumes-then}
 
 pub two_ways : (b : Bool) → (b ≡ true) ⊎ (b ≡ false)
 two_ways true = inl refl
@@ -98,7 +98,7 @@ rest_on mid more new n le e = sym (append_assoc (take n mid) (drop n mid) more) 
 pub gives : (most : ℕ) (a b c : Option (List ℕ)) (old mid held new : List ℕ) (o p : Option (List ℕ)) (front : Front) (head : HeadView) (request : Request)
     → FrontRead front_limit a b old mid front → FrontSays most (take front.size mid) front.kind (Ok head) → TookMore b c mid held
     → front.size + body_length head.fields ≤ length held → request.body ≡ take (body_length head.fields) (drop front.size held)
-    → new ≡ drop (front.size + body_length head.fields) held → TellsHead request head → Gained o p (interim_of head)
+    → new ≡ drop (front.size + body_length head.fields) held → TellsHead request head → Grew o p (interim_of head)
     → GivesRequest most a c old new o p request
 gives most a b c old mid held new o p front head request fr says t le is rest tells wrote =
     let k = says_block most (take front.size mid) head front.kind says in
@@ -136,7 +136,7 @@ gives most a b c old mid held new o p front head request fr says t le is rest te
 -- the input ends in a body
 pub cuts : (most : ℕ) (a b c : Option (List ℕ)) (old mid held : List ℕ) (o p : Option (List ℕ)) (front : Front) (head : HeadView)
     → FrontRead front_limit a b old mid front → FrontSays most (take front.size mid) front.kind (Ok head) → TookMore b c mid held
-    → length held < front.size + body_length head.fields → IsAtEnd c → Gained o p (interim_of head) → StopsInBody most a c old o p
+    → length held < front.size + body_length head.fields → IsAtEnd c → Grew o p (interim_of head) → StopsInBody most a c old o p
 cuts most a b c old mid held o p front head fr says t short done wrote =
     let k = says_block most (take front.size mid) head front.kind says in
     let f = take front.size mid in
@@ -207,12 +207,12 @@ reads_head most a b old mid front head fr says = record {
   says = says;
 }
 
-whole_part : (o p : Option (List ℕ)) (text : List ℕ) → Gained o p text → WritesFront o p text
+whole_part : (o p : Option (List ℕ)) (text : List ℕ) → Grew o p text → WritesPart o p text
 whole_part o p text wrote = record { part = text; rest = []; split = sym (append-nil text); output = wrote }
 
 -- reading stops after one, and what it asks for was written
 pub stops_late : (most : ℕ) (a c : Option (List ℕ)) (old : List ℕ) (o p : Option (List ℕ)) (head : HeadView) (why : TakeStop) → ReadsHead most a old head
-    → Gained o p (interim_of head) → StopsSo most a c old o p (stop_of why)
+    → Grew o p (interim_of head) → StopsSo most a c old o p (stop_of why)
 stops_late most a c old o p head from.LinkFault reads wrote = inr (head, reads, whole_part o p (interim_of head) wrote)
 stops_late most a c old o p head from.OutOfMemory reads wrote = inr (head, reads, wrote)
 

@@ -2,11 +2,9 @@ pub mod BlockSteps
 mod Examples
 pub mod FieldSteps
 pub mod FrontSteps
-pub mod Gains
 pub mod HoweverCut
 pub mod ItemSteps
 pub mod Lawful
-pub mod Pieces
 pub mod Room
 pub mod Sayings
 pub mod Told

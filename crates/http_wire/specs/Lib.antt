@@ -5,8 +5,6 @@ pub mod HeadReading
 pub mod Heads
 pub mod Items
 pub mod Laws
-pub mod Memory
 pub mod Requests
 pub mod Spanned
-pub mod Streams
 pub mod Taking

@@ -4,11 +4,11 @@
 use Rattle.std.specs.Prelude.{◌≡◌, ◌⊎◌, ℕ, List, ◌++◌, map, Ok}
 use Rattle.std.specs.declared.option.Option.{Option}
 use Rattle.std.specs.Io.KnownBytes.{Consumes, IsAtEnd}
+use Rattle.streams.specs.Effects.{Grew, WritesPart}
 use Rattle.http_wire.specs.FieldPairs.{as_pair}
 use Rattle.http_wire.specs.Fronts.{front_limit, IsFront}
 use Rattle.http_wire.specs.Heads.{HeadView, FrontSays, closes, interim_of}
 use Rattle.http_wire.specs.Items.{IsRequest, EndsAtFront, EndsInBody}
-use Rattle.http_wire.specs.Streams.{Gained, WritesFront}
 use Rattle.http_wire.specs.Taking.{Moved, AtEndIf}
 use Rattle.http_wire.specs.declared.block.BlockEnd.{BlockEnd}
 use Rattle.http_wire.specs.declared.ending.StreamEnd.{StreamEnd}
@@ -36,7 +36,7 @@ pub record GivesRequest (most : ℕ) (before after : Option (List ℕ)) (old new
   pub head : HeadView
   pub item : IsRequest front_limit most used head request.body
   pub tells : TellsHead request head
-  pub wrote : Gained out out_new (interim_of head)
+  pub wrote : Grew out out_new (interim_of head)
 
 -- the link has nothing left where the input's end is the answer
 abbrev pub IsSpent : Option (List ℕ) → StreamEnd → Type 0
@@ -58,7 +58,7 @@ pub record StopsInBody (most : ℕ) (before after : Option (List ℕ)) (old : Li
   pub lost : Consumes before after taken
   pub item : EndsInBody front_limit most (old ++ taken)
   pub spent : IsAtEnd after
-  pub wrote : Gained out out_new (interim_of item.head)
+  pub wrote : Grew out out_new (interim_of item.head)
 
 -- the bytes that were held and a first part of what the link had left begin with a front that says this head
 pub record ReadsHead (most : ℕ) (before : Option (List ℕ)) (old : List ℕ) (head : HeadView) : Type 0 where
@@ -74,12 +74,12 @@ pub record ReadsHead (most : ℕ) (before : Option (List ℕ)) (old : List ℕ) 
 -- The link failed: nothing was written, or a first part of what the head that was read asks for.
 abbrev pub BreaksOff : ℕ → Option (List ℕ) → List ℕ → Option (List ℕ) → Option (List ℕ) → Type 0
 BreaksOff most before old out out_new =
-    (out_new ≡ out) ⊎ ((head : HeadView) × ReadsHead most before old head × WritesFront out out_new (interim_of head))
+    (out_new ≡ out) ⊎ ((head : HeadView) × ReadsHead most before old head × WritesPart out out_new (interim_of head))
 
 -- Memory ran out: nothing was written, or what the head that was read asks for.
 abbrev pub RunsOut : ℕ → Option (List ℕ) → List ℕ → Option (List ℕ) → Option (List ℕ) → Type 0
 RunsOut most before old out out_new =
-    (out_new ≡ out) ⊎ ((head : HeadView) × ReadsHead most before old head × Gained out out_new (interim_of head))
+    (out_new ≡ out) ⊎ ((head : HeadView) × ReadsHead most before old head × Grew out out_new (interim_of head))
 
 -- why reading stopped
 abbrev pub StopsSo : ℕ → Option (List ℕ) → Option (List ℕ) → List ℕ → Option (List ℕ) → Option (List ℕ) → Stop → Type 0

@@ -1,12 +1,12 @@
 //! Looks for the end of a block, each byte once, however the link cuts them.
 ghost use Rattle.std.specs.Prelude.{◌≡◌, ◌≤◌, ◌<◌, ◌↔◌, length, IsTrue, IfOk, IfSome, IfNone, OnOk, Err};
-ghost use Rattle.exact_time.specs.Causes.{Rose};
 ghost use Rattle.http_wire.specs.Blocks.{EndsBlock, NoBlock, IsBlock};
 ghost use Rattle.http_wire.specs.Taking.{TookMore, StopsAs, AtEndIf};
+ghost use Rattle.streams.specs.Effects.{OnlyTakes};
 
 use crate::inbox::Inbox;
-use crate::link::Link;
 use crate::taking::TakeStop;
+use streams::Link;
 
 /// How the search for the end of a block ended.
 #[derive(Clone, Copy, Debug, PartialEq, Eq)]
@@ -49,12 +49,10 @@ pub(crate) fn read_block<L: Link>(
     held: &mut Inbox,
     limit: usize,
 ) -> Result<BlockEnd, TakeStop>
-    ensures took { OnOk result (TookMore (L.left link.old) (L.left link.new) held.old held.new) }
+    ensures took { OnOk result (TookMore (L.view link.old).left (L.view link.new).left held.old held.new) }
     ensures stops { IfOk result (λ end. StopsAs limit held.new end) }
-    ensures all { IfOk result (λ end. AtEndIf (L.left link.new) end) }
-    ensures fault { result ≡ Err TakeStop.LinkFault → Rose (L.faults link.old) (L.faults link.new) }
-    ensures later { L.faults link.old ≤ L.faults link.new }
-    ensures kept { L.written link.new ≡ L.written link.old }
+    ensures all { IfOk result (λ end. AtEndIf (L.view link.new).left end) }
+    ensures takes { OnlyTakes (L.view link.old) (L.view link.new) (result ≡ Err TakeStop.LinkFault) }
 {
     let mut seen = 0;
     'pieces: loop {

@@ -1,13 +1,13 @@
 //! Reads the front of a request: lets blank bytes go, and looks for its block.
 ghost use Rattle.std.specs.Prelude.{◌≡◌, ◌≤◌, ◌<◌, ◌^◌, length, drop, IfOk, Err};
-ghost use Rattle.exact_time.specs.Causes.{Rose};
 ghost use Rattle.http_wire.specs.Fronts.{after_space, has_long_target};
 ghost use Rattle.http_wire.specs.Taking.{skip_blank, Skipped, AtEndIf, FrontRead, front_size};
+ghost use Rattle.streams.specs.Effects.{OnlyTakes};
 
 use crate::block::{BlockEnd, read_block};
 use crate::inbox::Inbox;
-use crate::link::Link;
 use crate::taking::{TakeStop, hold_some};
+use streams::Link;
 
 /// A front of what is held, and how it ends.
 #[derive(Clone, Copy, Debug, PartialEq, Eq)]
@@ -29,11 +29,9 @@ fn skip_blank(text: &[u8]) -> &[u8]
 
 // Takes a piece where nothing is held, and lets go of the blank bytes. Answers how many these were.
 fn skip_piece<L: Link>(link: &mut L, held: &mut Inbox) -> Result<usize, TakeStop>
-    ensures skipped { IfOk result (λ n. Skipped 1 (L.left link.old) (L.left link.new) held.old n held.new) }
+    ensures skipped { IfOk result (λ n. Skipped 1 (L.view link.old).left (L.view link.new).left held.old n held.new) }
     ensures small { IfOk result (λ n. n < 2 ^ 63) }
-    ensures fault { result ≡ Err TakeStop.LinkFault → Rose (L.faults link.old) (L.faults link.new) }
-    ensures later { L.faults link.old ≤ L.faults link.new }
-    ensures kept { L.written link.new ≡ L.written link.old }
+    ensures takes { OnlyTakes (L.view link.old) (L.view link.new) (result ≡ Err TakeStop.LinkFault) }
 {
     hold_some(link, held)?;
     let count = held.len() - skip_blank(held.as_slice()).len();
@@ -44,10 +42,8 @@ fn skip_piece<L: Link>(link: &mut L, held: &mut Inbox) -> Result<usize, TakeStop
 // Lets go of the blank bytes before a request.
 fn skip_blanks<L: Link>(link: &mut L, held: &mut Inbox, limit: usize) -> Result<usize, TakeStop>
     requires small { limit < 2 ^ 32 }
-    ensures skipped { IfOk result (λ n. Skipped limit (L.left link.old) (L.left link.new) held.old n held.new) }
-    ensures fault { result ≡ Err TakeStop.LinkFault → Rose (L.faults link.old) (L.faults link.new) }
-    ensures later { L.faults link.old ≤ L.faults link.new }
-    ensures kept { L.written link.new ≡ L.written link.old }
+    ensures skipped { IfOk result (λ n. Skipped limit (L.view link.old).left (L.view link.new).left held.old n held.new) }
+    ensures takes { OnlyTakes (L.view link.old) (L.view link.new) (result ≡ Err TakeStop.LinkFault) }
 {
     let mut skipped = 0;
     'pieces: loop {
@@ -83,11 +79,9 @@ pub(crate) fn read_front<L: Link>(
     limit: usize,
 ) -> Result<Front, TakeStop>
     requires small { limit < 2 ^ 32 }
-    ensures front { IfOk result (FrontRead limit (L.left link.old) (L.left link.new) held.old held.new) }
-    ensures end { IfOk result (λ front. AtEndIf (L.left link.new) front.kind) }
-    ensures fault { result ≡ Err TakeStop.LinkFault → Rose (L.faults link.old) (L.faults link.new) }
-    ensures later { L.faults link.old ≤ L.faults link.new }
-    ensures kept { L.written link.new ≡ L.written link.old }
+    ensures front { IfOk result (FrontRead limit (L.view link.old).left (L.view link.new).left held.old held.new) }
+    ensures end { IfOk result (λ front. AtEndIf (L.view link.new).left front.kind) }
+    ensures takes { OnlyTakes (L.view link.old) (L.view link.new) (result ≡ Err TakeStop.LinkFault) }
 {
     let skipped = skip_blanks(link, held, limit)?;
     if limit <= skipped {

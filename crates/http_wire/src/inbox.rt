@@ -1,14 +1,14 @@
 //! What was taken from a link and isn't used yet.
 ghost use Rattle.std.specs.Prelude.{◌≡◌, ◌==◌, ◌<◌, ◌≤◌, ◌+◌, [], length, take, drop, IfOk, OnOk, Err, MatchBool};
 ghost use Rattle.std.specs.Io.KnownBytes.{Consumes, IsAtEnd};
-ghost use Rattle.exact_time.specs.Causes.{Rose};
 ghost use Rattle.http_wire.specs.Taking.{TookMore};
+ghost use Rattle.streams.specs.Effects.{OnlyTakes};
 
-use crate::link::Link;
 use crate::taking::TakeStop;
 use exact_time::OutOfMemory;
 use std::alloc::Global;
 use std::marker::Model;
+use streams::Link;
 
 // How much room an inbox begins with, and how much is made where none is left.
 const PIECE: usize = 4096;
@@ -80,12 +80,10 @@ impl Inbox {
 
     // Takes one piece behind what is held. False is the end of the input.
     pub(crate) fn take_piece<L: Link>(&mut self, link: &mut L) -> Result<bool, TakeStop>
-        ensures took { OnOk result (TookMore (L.left link.old) (L.left link.new) self.old self.new) }
+        ensures took { OnOk result (TookMore (L.view link.old).left (L.view link.new).left self.old self.new) }
         ensures more { IfOk result (λ more. MatchBool more (length self.old < length self.new) (self.new ≡ self.old)) }
-        ensures end { IfOk result (λ more. MatchBool more (Unit {0}) (IsAtEnd (L.left link.new))) }
-        ensures fault { result ≡ Err TakeStop.LinkFault → Rose (L.faults link.old) (L.faults link.new) }
-        ensures later { L.faults link.old ≤ L.faults link.new }
-        ensures kept { L.written link.new ≡ L.written link.old }
+        ensures end { IfOk result (λ more. MatchBool more (Unit {0}) (IsAtEnd (L.view link.new).left)) }
+        ensures takes { OnlyTakes (L.view link.old) (L.view link.new) (result ≡ Err TakeStop.LinkFault) }
     {
         let more = take_behind(link, &mut self.room, self.count)?;
         self.count += more;
@@ -124,11 +122,9 @@ fn take_behind<L: Link>(link: &mut L, room: &mut Vec<u8>, count: usize) -> Resul
     ensures front { take count room.new.items ≡ take count room.old.items }
     ensures within { count ≤ length room.new.items }
     ensures fits { IfOk result (λ more. count + more ≤ length room.new.items) }
-    ensures gave { IfOk result (λ more. Consumes (L.left link.old) (L.left link.new) (take more (drop count room.new.items))) }
-    ensures end { IfOk result (λ more. more ≡ 0 → IsAtEnd (L.left link.new)) }
-    ensures fault { result ≡ Err TakeStop.LinkFault → Rose (L.faults link.old) (L.faults link.new) }
-    ensures later { L.faults link.old ≤ L.faults link.new }
-    ensures kept { L.written link.new ≡ L.written link.old }
+    ensures gave { IfOk result (λ more. Consumes (L.view link.old).left (L.view link.new).left (take more (drop count room.new.items))) }
+    ensures end { IfOk result (λ more. more ≡ 0 → IsAtEnd (L.view link.new).left) }
+    ensures takes { OnlyTakes (L.view link.old) (L.view link.new) (result ≡ Err TakeStop.LinkFault) }
 {
     if make_place(room, count).is_err() {
         return Err(TakeStop::OutOfMemory);

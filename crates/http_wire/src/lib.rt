@@ -4,8 +4,8 @@
 //! taken and not used yet. Its contract is words of `specs/Requests.antt`: the next request of all that
 //! was held and that the link gave, or why there is none, and what was written. It says nothing of the
 //! pieces in which the bytes came. It writes the interim reply (RFC 9110, section 10.1.1) and nothing
-//! else. [`put_all`] writes bytes to a link, however many it takes at a time. [`MemoryLink`] is a link in
-//! memory; what each of its calls does is in `specs/Memory.antt`.
+//! else. A link, one in memory and [`put_all`], which writes bytes to a link however many it takes at a time,
+//! are those of `streams`.
 //!
 //! The definition, on whole lists of bytes: `specs/Blocks.antt` says where a head's block ends (RFC 9112,
 //! section 2.1), `specs/Fronts.antt` how a stream is cut into blank bytes, the front of a request and the
@@ -32,8 +32,6 @@ mod head;
 mod inbox;
 mod judging;
 mod law;
-mod link;
-mod memory;
 mod parsing;
 mod reading;
 mod request;
@@ -49,8 +47,6 @@ pub use law::{
     a_front_holds_its_target, a_stream_has_one_list_of_items, answers_speak_of_all_bytes,
     bytes_begin_with_one_request, pieces_do_not_matter,
 };
-pub use link::Link;
-pub use memory::MemoryLink;
 pub use reading::read_request;
 pub use request::Request;
-pub use writing::put_all;
+pub use streams::{Link, MemoryLink, Sink, Source, Stream, put_all};

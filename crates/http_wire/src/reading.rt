@@ -11,12 +11,12 @@ use crate::front::read_front;
 use crate::head::Head;
 use crate::inbox::Inbox;
 use crate::judging::judged;
-use crate::link::Link;
 use crate::request::Request;
 use crate::taking::{TakeStop, fill};
 use crate::writing::send_interim;
 use exact_time::{Bytes, OutOfMemory};
 use std::alloc::Global;
+use streams::Link;
 
 // How many bytes may pass before a block has ended, the blank ones in front counted.
 const FRONT_LIMIT: usize = 16_384;
@@ -58,10 +58,10 @@ fn read_item<L: Link>(
     held: &mut Inbox,
     most: u64,
 ) -> Result<Request, Stop>
-    ensures request { IfOk result (GivesRequest most (L.left link.old) (L.left link.new) held.old held.new (L.written link.old) (L.written link.new)) }
-    ensures stops { IfErr result (StopsSo most (L.left link.old) (L.left link.new) held.old (L.written link.old) (L.written link.new)) }
-    ensures fault { result ≡ Err Stop.LinkFault → Rose (L.faults link.old) (L.faults link.new) }
-    ensures later { L.faults link.old ≤ L.faults link.new }
+    ensures request { IfOk result (GivesRequest most (L.view link.old).left (L.view link.new).left held.old held.new (L.view link.old).written (L.view link.new).written) }
+    ensures stops { IfErr result (StopsSo most (L.view link.old).left (L.view link.new).left held.old (L.view link.old).written (L.view link.new).written) }
+    ensures fault { result ≡ Err Stop.LinkFault → Rose (L.view link.old).faults (L.view link.new).faults }
+    ensures later { (L.view link.old).faults ≤ (L.view link.new).faults }
 {
     let front = match read_front(link, held, FRONT_LIMIT) {
         Ok(front) => front,
@@ -116,10 +116,10 @@ pub fn read_request<L: Link>(
     inbox: &mut Inbox,
     max_body: u64,
 ) -> Result<Request, ReadEnd>
-    ensures request { IfOk result (GivesRequest max_body (L.left link.old) (L.left link.new) inbox.old inbox.new (L.written link.old) (L.written link.new)) }
-    ensures ends { IfErr result (EndsSo max_body (L.left link.old) (L.left link.new) inbox.old (L.written link.old) (L.written link.new)) }
-    ensures fault { result ≡ Err ReadEnd.LinkFault → Rose (L.faults link.old) (L.faults link.new) }
-    ensures later { L.faults link.old ≤ L.faults link.new }
+    ensures request { IfOk result (GivesRequest max_body (L.view link.old).left (L.view link.new).left inbox.old inbox.new (L.view link.old).written (L.view link.new).written) }
+    ensures ends { IfErr result (EndsSo max_body (L.view link.old).left (L.view link.new).left inbox.old (L.view link.old).written (L.view link.new).written) }
+    ensures fault { result ≡ Err ReadEnd.LinkFault → Rose (L.view link.old).faults (L.view link.new).faults }
+    ensures later { (L.view link.old).faults ≤ (L.view link.new).faults }
 {
     match read_item(alloc, link, inbox, max_body) {
         Ok(request) => Ok(request),

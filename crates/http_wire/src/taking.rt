@@ -1,11 +1,11 @@
 //! Takes from a link into what is held.
 ghost use Rattle.std.specs.Prelude.{◌≡◌, ◌≤◌, ◌<◌, [], length, IfOk, OnOk, Err, MatchBool};
 ghost use Rattle.std.specs.Io.KnownBytes.{IsAtEnd};
-ghost use Rattle.exact_time.specs.Causes.{Rose};
 ghost use Rattle.http_wire.specs.Taking.{TookMore};
+ghost use Rattle.streams.specs.Effects.{OnlyTakes};
 
 use crate::inbox::Inbox;
-use crate::link::Link;
+use streams::Link;
 
 /// Why bytes couldn't be taken.
 #[derive(Clone, Copy, Debug, PartialEq, Eq)]
@@ -16,11 +16,9 @@ pub enum TakeStop {
 
 // Takes a piece where nothing is held.
 pub(crate) fn hold_some<L: Link>(link: &mut L, held: &mut Inbox) -> Result<(), TakeStop>
-    ensures took { OnOk result (TookMore (L.left link.old) (L.left link.new) held.old held.new) }
-    ensures end { OnOk result (held.new ≡ [] → IsAtEnd (L.left link.new)) }
-    ensures fault { result ≡ Err TakeStop.LinkFault → Rose (L.faults link.old) (L.faults link.new) }
-    ensures later { L.faults link.old ≤ L.faults link.new }
-    ensures kept { L.written link.new ≡ L.written link.old }
+    ensures took { OnOk result (TookMore (L.view link.old).left (L.view link.new).left held.old held.new) }
+    ensures end { OnOk result (held.new ≡ [] → IsAtEnd (L.view link.new).left) }
+    ensures takes { OnlyTakes (L.view link.old) (L.view link.new) (result ≡ Err TakeStop.LinkFault) }
 {
     if !held.is_empty() {
         return Ok(());
@@ -31,12 +29,10 @@ pub(crate) fn hold_some<L: Link>(link: &mut L, held: &mut Inbox) -> Result<(), T
 
 // Takes from the link until `size` bytes are held. False where the input ends before.
 pub(crate) fn fill<L: Link>(link: &mut L, held: &mut Inbox, size: usize) -> Result<bool, TakeStop>
-    ensures took { OnOk result (TookMore (L.left link.old) (L.left link.new) held.old held.new) }
+    ensures took { OnOk result (TookMore (L.view link.old).left (L.view link.new).left held.old held.new) }
     ensures full { IfOk result (λ full. MatchBool full (size ≤ length held.new) (length held.new < size)) }
-    ensures end { IfOk result (λ full. MatchBool full (Unit {0}) (IsAtEnd (L.left link.new))) }
-    ensures fault { result ≡ Err TakeStop.LinkFault → Rose (L.faults link.old) (L.faults link.new) }
-    ensures later { L.faults link.old ≤ L.faults link.new }
-    ensures kept { L.written link.new ≡ L.written link.old }
+    ensures end { IfOk result (λ full. MatchBool full (Unit {0}) (IsAtEnd (L.view link.new).left)) }
+    ensures takes { OnlyTakes (L.view link.old) (L.view link.new) (result ≡ Err TakeStop.LinkFault) }
 {
     if held.make_room(size).is_err() {
         return Err(TakeStop::OutOfMemory);

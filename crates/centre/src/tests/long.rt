@@ -1,7 +1,7 @@
 //! Inputs as long as may be, and one byte longer.
 ghost use Rattle.std.specs.Prelude.{None};
 
-use crate::{MemorySink, Source, run};
+use crate::{MemorySink, Source, Stream, run};
 use exact_time::{Failed, Many};
 use std::alloc::Global;
 use std::test::Fail;
@@ -12,11 +12,15 @@ struct Zeros {
     left: usize,
 }
 
+impl Stream for Zeros {
+    ghost view = { λ _. record { left = None; written = None; faults = 0 } };
+
+    fn faults(&self) -> u64 {
+        0
+    }
+}
+
 impl Source for Zeros {
-    ghost left = { λ _. None };
-
-    ghost faults = { λ _. 0 };
-
     fn take(&mut self, into: &mut [u8]) -> Result<usize, Failed> {
         let count = self.left.min(into.len());
         into[..count].fill(0);

@@ -1,4 +1,5 @@
-use Rattle.std.proofs.Common.{◌-◌, ◌≤◌}
+use Rattle.std.proofs.Common.{◌-◌}
+use Rattle.streams.specs.Effects.{OnlyTakes}
 use Rattle.centre.specs.Limits.{most_input}
 use Rattle.centre.proofs.Shelved.{IsTaken}
 use Rattle.centre.proofs.intake.take_records.Given as goal
@@ -6,8 +7,8 @@ use Rattle.centre.proofs.intake.take_records.Given as goal
 -- the pieces so far were taken, and cut as far as they go
 abbrev pub invariant-pieces : goal.invariant-pieces
 invariant-pieces g l = record {
-  taken : IsTaken l.query (g.S.Source.left l.fn.source) (g.S.Source.left l.source) l.total l.intake.rest l.intake.place l.intake.fault (g.H.Shelf.rows l.shelf);
-  later : g.S.Source.faults l.fn.source ≤ g.S.Source.faults l.source;
+  taken : IsTaken l.query (g.S.Stream.view l.fn.source).left (g.S.Stream.view l.source).left l.total l.intake.rest l.intake.place l.intake.fault (g.H.Shelf.rows l.shelf);
+  takes : OnlyTakes (g.S.Stream.view l.fn.source) (g.S.Stream.view l.source) ⊥;
 }
 
 abbrev pub decreases-pieces : goal.decreases-pieces

@@ -1,10 +1,11 @@
-use Rattle.std.proofs.Common.{rules, ◌≡◌, ◌≤◌, ◌<◌, ℕ, List, length, arith, refl, subst, sym, ◌∙◌}
+use Rattle.std.proofs.Common.{rules, ◌≡◌, ◌≤◌, ◌<◌, ℕ, List, length, arith, subst, sym}
 use Rattle.http_wire.specs.Blocks.{NoBlock}
+use Rattle.streams.proofs.GoingOn.{no_take, takes_then}
 use Rattle.http_wire.proofs.BlockSteps.{no_bytes, late, full, took_then, took_none, took_long}
 use Rattle.http_wire.proofs.block.read_block.Goals as goal
 
 pub pieces-init : goal.pieces-init
-pieces-init g c = record { within = omega arith; clear = no_bytes c.args.held.now; took = search rules; kept = refl; later = omega arith }
+pieces-init g c = record { within = omega arith; clear = no_bytes c.args.held.now; took = search rules; takes = no_take _ }
 
 pub block_end-requires-clause-clear : goal.block_end-requires-clause-clear
 block_end-requires-clause-clear g c = let P : List ℕ → Type 0 = λ t. NoBlock t c.pieces.seen in subst P (sym c.as_slice.ensures) c.pieces.invariant.clear
@@ -40,6 +41,5 @@ pieces-preserved g c =
       within = omega (arith, seen, took_long _ _ _ _ took);
       clear = subst P (sym seen) (took_none _ _ old _ (length old) took (omega arith) none);
       took = took_then _ _ _ _ old _ c.pieces.invariant.took took;
-      kept = c.take_piece.ensures.kept ∙ c.pieces.invariant.kept;
-      later = (let a = c.pieces.invariant.later in let b = c.take_piece.ensures.later in omega arith);
+      takes = takes_then _ _ _ c.pieces.invariant.takes c.take_piece.ensures.takes absurd;
     }

@@ -11,6 +11,6 @@ returns-clause-front g c =
     let n = c.in_ok-skipped.skipped in
     let kind = c.in_ok-kind.kind in
     let same : front_size kind (length held) (c.args.limit - n) ≡ c.front_size-size.result = ap (λ k. front_size kind k (c.args.limit - n)) (sym c.len.ensures) ∙ sym c.front_size-size.ensures in
-    let P : ℕ → Type 0 = λ k. FrontRead c.args.limit (g.L.Link.left c.args.link.now) (g.L.Link.left c.read_block.new.link) c.args.held.now held (record { kind = kind; size = k }) in
+    let P : ℕ → Type 0 = λ k. FrontRead c.args.limit (g.L.Stream.view c.args.link.now).left (g.L.Stream.view c.read_block.new.link).left c.args.held.now held (record { kind = kind; size = k }) in
     subst P same (front_read c.args.limit _ _ _ _ mid held n kind (omega (arith, c.if-limit-skipped.false)) some
     c.in_ok-skipped.ensures.skipped c.in_ok-kind.ensures.took c.in_ok-kind.ensures.stops)

@@ -1,5 +1,6 @@
-use Rattle.std.proofs.Common.{◌≡◌, length, arith, ap, ◌∙◌, true, false}
+use Rattle.std.proofs.Common.{◌≡◌, length, arith, ap, true, false}
 use Rattle.std.proofs.lemmas.Bool.{false≢true}
+use Rattle.streams.proofs.GoingOn.{takes_then}
 use Rattle.http_wire.proofs.FrontSteps.{skip_on, let_go_then}
 use Rattle.http_wire.proofs.front.skip_blanks.Goals as goal
 
@@ -21,6 +22,5 @@ pub pieces-preserved : goal.pieces-preserved
 pieces-preserved g c = record {
   gone = let_go_then _ _ _ _ c.pieces.held _ _ _ c.pieces.invariant.gone c.in_ok-count.ensures.skipped.gone;
   small = (let a = c.requires.small in omega (arith, a, c.if-limit-skipped.false));
-  kept = c.skip_piece.ensures.kept ∙ c.pieces.invariant.kept;
-  later = (let a = c.pieces.invariant.later in let b = c.skip_piece.ensures.later in omega arith);
+  takes = takes_then _ _ _ c.pieces.invariant.takes c.skip_piece.ensures.takes absurd;
 }

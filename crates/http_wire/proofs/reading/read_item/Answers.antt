@@ -25,7 +25,7 @@ returns-in-Ok-false-clause-stops g c =
     let front = c.in-Ok.front in
     let head = head_view c.in-Ok-judged.head in
     let P : List ℕ → Type 0 = λ x. FrontSays c.args.most (take front.size x) front.kind (Ok head) in
-    let T : Option (List ℕ) → Type 0 = λ o. TookMore o (g.L.Link.left c.fill.new.link) mid c.fill.new.held in
+    let T : Option (List ℕ) → Type 0 = λ o. TookMore o (g.L.Stream.view c.fill.new.link).left mid c.fill.new.held in
     cuts c.args.most _ _ _ _ mid c.fill.new.held _ _ front head c.in-Ok.ensures.front (subst P c.as_slice.ensures c.in-Ok-judged.ensures.ok)
     (subst T c.send_interim.ensures.kept c.in-Ok-false.ensures.took) (search rules) (rw c.in-Ok-false.field-0-test at c.in-Ok-false.ensures.end) (search rules)
 
@@ -36,7 +36,7 @@ returns-clause-request g c =
     let head = head_view c.in-Ok-judged.head in
     let held = c.fill.new.held in
     let P : List ℕ → Type 0 = λ x. FrontSays c.args.most (take front.size x) front.kind (Ok head) in
-    let T : Option (List ℕ) → Type 0 = λ o. TookMore o (g.L.Link.left c.fill.new.link) mid held in
+    let T : Option (List ℕ) → Type 0 = λ o. TookMore o (g.L.Stream.view c.fill.new.link).left mid held in
     let size = front.size in
     let more = c.body_length-more.result in
     let more_is : more ≡ body_length head.fields = c.body_length-more.ensures.value ∙ ap (λ (fs : List Field). body_length (map as_pair fs)) c.as_slice-2.ensures in
@@ -57,7 +57,7 @@ returns-in-Err-fill-clause-stops g c =
     let head = head_view c.in-Ok-judged.head in
     let P : List ℕ → Type 0 = λ x. FrontSays c.args.most (take front.size x) front.kind (Ok head) in
     let reads = reads_head c.args.most _ _ _ mid front head c.in-Ok.ensures.front (subst P c.as_slice.ensures c.in-Ok-judged.ensures.ok) in
-    let S : Stop → Type 0 = λ s. StopsSo c.args.most (g.L.Link.left c.args.link.now) (g.L.Link.left c.fill.new.link) c.args.held.now (g.L.Link.written c.args.link.now) (g.L.Link.written c.fill.new.link) s in
+    let S : Stop → Type 0 = λ s. StopsSo c.args.most (g.L.Stream.view c.args.link.now).left (g.L.Stream.view c.fill.new.link).left c.args.held.now (g.L.Stream.view c.args.link.now).written (g.L.Stream.view c.fill.new.link).written s in
     subst S (sym c.stopped-in-Err-fill.ensures) (stops_late c.args.most _ _ _ _ _ head c.in-Err-fill.stop reads (search rules))
 
 pub returns-in_default-request_of-clause-stops : goal.returns-in_default-request_of-clause-stops

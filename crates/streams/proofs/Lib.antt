@@ -1,0 +1,4 @@
+mod Examples
+pub mod Giving
+pub mod GoingOn
+pub mod Grows
