@@ -5,4 +5,5 @@ pub mod Numbers
 pub mod OneEntry
 pub mod Parts
 pub mod Payloads
+pub mod ReadBack
 pub mod Readings

@@ -1,5 +1,5 @@
 //! What holds of every entry, every payload and every body.
-ghost use Rattle.std.specs.Prelude.{◌≡◌, ◌++◌, ℕ, List, Result, true};
+ghost use Rattle.std.specs.Prelude.{◌≡◌, ◌+◌, ◌≤◌, ◌++◌, ℕ, List, length, Result, true};
 ghost use Rattle.list_laws.specs.Only.{IsOnly};
 ghost use Rattle.exact_time.specs.Clock.{is_clock_moment};
 ghost use Rattle.exact_time.specs.declared.moment.Moment.{Moment};
@@ -10,6 +10,7 @@ ghost use Rattle.mseed_header.specs.declared.row.Row.{Row};
 ghost use Rattle.archive_entry.specs.Batches.{AreBatchRows, batch_of, batch_rows};
 ghost use Rattle.archive_entry.specs.Bodies.{revision_of};
 ghost use Rattle.archive_entry.specs.Format.{IsEntryFault};
+ghost use Rattle.archive_entry.specs.Payload.{entry_of_payload};
 ghost use Rattle.archive_entry.specs.Spelling.{IsEntry, Spells, spelling};
 ghost use Rattle.archive_entry.specs.declared.entry.Entry.{Entry};
 ghost use Rattle.archive_entry.specs.declared.fault.EntryFault.{EntryFault};
@@ -18,6 +19,13 @@ ghost use Rattle.archive_entry.specs.declared.fault.EntryFault.{EntryFault};
 /// have the same one.
 pub fn no_spelling_begins_another()
     ensures { (e d : Entry) (rest : List ℕ) → IsEntry e → IsEntry d → spelling e ++ rest ≡ spelling d → e ≡ d }
+{}
+
+/// What is spelled reads back, and has from 1 to 2,097,152 bytes, as a payload of a journal.
+pub fn what_is_spelled_reads_back()
+    ensures back { (e : Entry) → IsEntry e → entry_of_payload (spelling e) ≡ e }
+    ensures size { (e : Entry) → length (spelling e) ≡ 30 + length e.author + length e.body }
+    ensures fits { (e : Entry) → IsEntry e → (1 ≤ length (spelling e)) × (length (spelling e) ≤ 2_097_152) }
 {}
 
 /// Every payload spells exactly one entry, or exactly one field is the first that can't stand there.

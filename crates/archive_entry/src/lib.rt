@@ -9,9 +9,9 @@
 //! What a body says is a function of its bytes: `revision_of` and `is_body` of `specs/Bodies.antt`, `batch_of`,
 //! `batch_fault`, `record_count` and `batch_rows` of `specs/Batches.antt`.
 //!
-//! The laws are in `src/law.rt`: no spelling of an entry begins that of another, so each has one; every payload is
-//! one entry or has one fault; and the words of a body are the one right answer of the relations on records
-//! (`mseed_header`) and on revisions (`epochs`).
+//! The laws are in `src/law.rt`: no spelling of an entry begins that of another, so each has one; what is spelled reads
+//! back (`entry_of_payload` of `specs/Payload.antt`); every payload is one entry or has one fault; and the words of a
+//! body are the one right answer of the relations on records (`mseed_header`) and on revisions (`epochs`).
 //!
 //! `src/reading.rt` reads a payload field by field (`specs/Reading.antt`).
 #![tactic(auto)]
@@ -32,5 +32,5 @@ pub use entry::{Entry, Kind};
 pub use fault::EntryFault;
 pub use law::{
     a_batch_has_one_reading, a_payload_is_one_entry_or_has_one_fault, a_revision_has_one_reading,
-    no_spelling_begins_another,
+    no_spelling_begins_another, what_is_spelled_reads_back,
 };

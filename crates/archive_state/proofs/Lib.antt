@@ -1,0 +1,13 @@
+pub mod Absorbs
+pub mod Accepts
+pub mod Checks
+pub mod Examples
+pub mod Founding
+pub mod Growth
+pub mod Numbers
+pub mod Once
+pub mod OneSaying
+pub mod Room
+pub mod Sayings
+pub mod Sendings
+pub mod Stands

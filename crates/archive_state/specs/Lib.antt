@@ -1,0 +1,10 @@
+pub mod Admits
+pub mod Authors
+pub mod History
+pub mod Lawful
+pub mod Limits
+pub mod Lines
+pub mod Sendings
+pub mod States
+pub mod VerdictLaw
+pub mod Verdicts
