@@ -1,0 +1,50 @@
+-- What a start finds, payload by payload.
+use Rattle.std.proofs.Common.{◌≡◌, ◌∙◌, ◌⊎◌, inl, inr, ℕ, ◌+◌, List, [], ◌∷◌, ◌++◌, length, take, true, false, Some, Ok, Err, slice_get, refl, sym, ap, subst, arith}
+use Rattle.std.specs.Prelude.{IsErrOf}
+use Rattle.std.proofs.lemmas.Bool.{true≢false}
+use Rattle.std.proofs.lemmas.List.{take_more}
+use Rattle.std.proofs.lemmas.Option.{get_or_from_slice_get, slice_get_within}
+use Rattle.list_laws.specs.Only.{IsOnly}
+use Rattle.archive_journal.proofs.Entries.{first_gate}
+use Rattle.archive_entry.specs.Format.{IsEntryFault}
+use Rattle.archive_entry.specs.Payload.{entry_of_payload}
+use Rattle.archive_entry.specs.Spelling.{Spells, spelling}
+use Rattle.archive_entry.specs.declared.entry.Entry.{Entry}
+use Rattle.archive_entry.specs.declared.fault.EntryFault.{EntryFault}
+use Rattle.archive_entry.specs.declared.fault.EntryFault.TheVariants as fault
+use Rattle.archive_entry.proofs.ReadBack.{entry_of_payload-spelling}
+use Rattle.archive_state.specs.Lawful.{is_next}
+use Rattle.archive_log.specs.Histories.{payloads_of}
+use Rattle.archive_log.specs.Opening.{SpellsNoNext, IsBadAt}
+use Rattle.archive_log.proofs.Spellings.{payloads_of-push}
+
+-- ---- one payload
+
+-- what can't be read spells no entry
+pub no_next_unread : (h : List Entry) (payload : List ℕ) (f : EntryFault) (at : ℕ) → f ≡ fault.Bad at → IsErrOf {T = Entry} (Err f) fault.OutOfMemory ⊎ IsOnly (Spells payload) (IsEntryFault payload) (Err f) → SpellsNoNext h payload
+no_next_unread h payload f at is (inl none) e spells = cc (is, none)
+no_next_unread h payload f at is (inr only) e spells = let both : Ok e ≡ Err f = only.only (Ok e) spells.spelled in cc (both)
+
+-- it spells this entry, and so no other
+pub no_next_other : (h : List Entry) (payload : List ℕ) (f : Entry) → Spells payload f → is_next h f ≡ false → SpellsNoNext h payload
+no_next_other h payload f spells not e next =
+    let same : f ≡ e = sym (entry_of_payload-spelling f spells.is_entry) ∙ ap entry_of_payload (sym spells.bytes ∙ next.spelled.bytes) ∙ entry_of_payload-spelling e next.spelled.is_entry in
+    true≢false (sym (subst (λ (x : Entry). is_next h x ≡ true) (sym same) next.next) ∙ not)
+
+-- ---- payload after payload
+
+-- one payload more
+pub spell_more : (h : List Entry) (e : Entry) (payloads : List (List ℕ)) (n : ℕ) → payloads_of h ≡ take n payloads → slice_get payloads n ≡ Some (spelling e) → payloads_of (h ++ e ∷ []) ≡ take (n + 1) payloads
+spell_more h e payloads n are there =
+    payloads_of-push h e ∙ (λ i. are i ++ sym (get_or_from_slice_get payloads n (spelling e) [] there) i ∷ []) ∙ sym (take_more payloads n [] (slice_get_within payloads n (spelling e) there))
+
+-- no payload
+pub no_entry : (payloads : List (List ℕ)) → length payloads ≡ 0 → (at : ℕ) → at ≡ 16 → IsBadAt payloads at
+no_entry [] none at is = record {
+  history = [];
+  is_history = record { lawful = refl; entries = tt };
+  before = refl;
+  bad = record { at_is = is ∙ sym (first_gate []); no_next = λ payload there. absurd (cc (there)) };
+  there = inr refl;
+}
+no_entry (p ∷ payloads) none at is = absurd (omega arith)
