@@ -161,6 +161,47 @@ fn names_the_damage(rt: HostRuntime) -> Result<(), Fail> {
     Ok(())
 }
 
+// Cut off anywhere, the founding file is no journal, or one that is damaged at the gate of its first or second payload.
+#[test]
+fn opens_no_part_of_a_file(rt: HostRuntime) -> Result<(), Fail> {
+    let alloc = rt.alloc();
+    let file = file_of(alloc, &[FOUNDING])?;
+    for (length, _) in file.as_slice().iter().enumerate() {
+        let wanted = match length {
+            0..=16 => Err(StartFault::NotAJournal),
+            17..=101 => Err(StartFault::Damaged(16)),
+            _ => Err(StartFault::Damaged(102)),
+        };
+        let part = file.as_slice().get(..length).ok_or("a part is longer")?;
+        assert_eq!(rt; outcome(alloc, part)?, wanted, "{length} bytes");
+    }
+    assert_eq!(rt; outcome(alloc, file.as_slice())?, Ok(1));
+    Ok(())
+}
+
+// A length that no file has, and a founding entry with the number 2.
+#[test]
+fn names_the_damage_of_a_byte(rt: HostRuntime) -> Result<(), Fail> {
+    let alloc = rt.alloc();
+    let mut long = Bytes::new(alloc);
+    long.extend(b"FDSNARCHIVE-0001\x01\xff\xff\xff\xff")?;
+    long.extend(FOUNDING)?;
+    long.push(0)?;
+    assert_eq!(rt;
+        outcome(alloc, long.as_slice())?,
+        Err(StartFault::Damaged(16))
+    );
+    let mut founding = Bytes::new(alloc);
+    founding.extend(b"\0\0\0\0\0\0\0\x02")?;
+    founding.extend(&FOUNDING[8..])?;
+    let second = file_of(alloc, &[founding.as_slice()])?;
+    assert_eq!(rt;
+        outcome(alloc, second.as_slice())?,
+        Err(StartFault::Damaged(16))
+    );
+    Ok(())
+}
+
 // What the images of a disk hold that stops after so many calls, at a commit of the second entry: how many
 // entries there are in the old image, the new one, and those filled with 0, 1 and 255; and whether the commit was done.
 fn counts_after(alloc: Global, calls: u64) -> Result<([Result<u64, StartFault>; 5], bool), Fail> {
