@@ -19,14 +19,19 @@ def below(names):
     return [(name, line) for name, line in lines.items() if name in wanted]
 
 
-def built(scratch, name, source, crates, words):
-    """The program of that source over these crates, proved and built; it is run once, with these words."""
+def built(scratch, name, source, crates, words, proofs=()):
+    """The program of that source over these crates, with these files of proofs by their paths, proved and built; it
+    is run once, with these words."""
     stands_on = below(crates)
     for crate, _ in stands_on:
         shutil.copytree(os.path.join(TOP, "crates", crate), os.path.join(scratch, "crates", crate))
     folder = os.path.join(scratch, "crates", name)
     os.makedirs(os.path.join(folder, "src"))
     shutil.copy(os.path.join(HERE, source), os.path.join(folder, "src", "main.rt"))
+    for path in proofs:
+        os.makedirs(os.path.dirname(os.path.join(folder, "proofs", path)), exist_ok=True)
+        with open(os.path.join(folder, "proofs", path), "w", encoding="utf-8") as wanted:
+            wanted.write(proofs[path])
     shutil.copy(os.path.join(TOP, "HANDLES"), scratch)
     with open(os.path.join(scratch, "crates.txt"), "w", encoding="utf-8") as wanted:
         wanted.writelines([line for _, line in stands_on] + [f"{name}: {' '.join(crates)}\n"])
