@@ -9,6 +9,7 @@ use crate::commit::{add_frame, begin};
 use crate::fault::{DiskFault, InitFault, ReadFault, RecoverFault};
 use crate::frame::{Frame, MAGIC};
 use crate::recover::find_frames;
+use crate::room::Room;
 use disk_model::Disk;
 use exact_time::{Bytes, OutOfMemory};
 use std::alloc::Global;
@@ -56,16 +57,26 @@ impl<D: Disk> Journal<D> {
     /// Makes a journal without payloads in an empty file. After `NotEmpty`, which gives the file's length,
     /// the file reads as before; after `DiskFault` it may have any part of the first 17 bytes. Takes no
     /// memory.
-    pub fn init(alloc: Global, mut disk: D) -> Result<Journal<D>, (D, InitFault)>
+    pub fn init(alloc: Global, disk: D) -> Result<Journal<D>, (D, InitFault)>
         ensures disk { MakesEmpty (D.view disk) (D.view (disk_in result)) (outcome_in result) }
         ensures payloads { WhereTold (D.view disk) (IfOk result (λ j. (j.payloads ≡ []) × Holds [] (D.view j.disk).content)) }
         ensures opened { IfOk result (λ j. (j.count ≡ 0) × (j.stopped ≡ false) × (j.faults ≡ (D.view j.disk).faults)) }
+    {
+        Journal::init_with(Room::none(alloc), disk)
+    }
+
+    /// The same, with room for as many payloads as were reserved before the file was touched.
+    pub fn init_with(room: Room, mut disk: D) -> Result<Journal<D>, (D, InitFault)>
+        ensures disk { MakesEmpty (D.view disk) (D.view (disk_in result)) (outcome_in result) }
+        ensures payloads { WhereTold (D.view disk) (IfOk result (λ j. (j.payloads ≡ []) × Holds [] (D.view j.disk).content)) }
+        ensures opened { IfOk result (λ j. (j.count ≡ 0) × (j.stopped ≡ false) × (j.faults ≡ (D.view j.disk).faults)) }
+        ensures room { IfOk result (λ j. j.spare ≡ room) }
     {
         match begin(&mut disk) {
             Ok(()) => Ok(Journal {
                 faults: disk.faults(),
                 disk,
-                offsets: Vec::new(alloc),
+                offsets: room.offsets,
                 end: MAGIC.len() as u64,
                 stopped: false,
             }),

@@ -34,6 +34,7 @@ mod law;
 #[cfg(test)]
 mod real_file;
 mod recover;
+mod room;
 #[cfg(test)]
 mod tests;
 
@@ -41,3 +42,4 @@ pub use fault::{DiskFault, InitFault, ReadFault, RecoverFault};
 pub use frame::Frame;
 pub use journal::Journal;
 pub use law::{a_file_reads_in_one_way, the_first_gate_stands_at_16};
+pub use room::Room;

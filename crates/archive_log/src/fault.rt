@@ -1,8 +1,8 @@
-//! Why an archive isn't opened.
+//! Why an archive isn't opened, or isn't founded.
 ghost use Rattle.std.specs.Prelude.{◌≡◌};
 ghost use Rattle.archive_log.specs.declared.fault.StartFault.TheVariants.{OutOfMemory as no_memory};
 
-use archive_journal::{ReadFault, RecoverFault};
+use archive_journal::{InitFault, ReadFault, RecoverFault};
 use exact_time::OutOfMemory;
 use std::error::Error;
 use std::fmt;
@@ -66,6 +66,42 @@ impl From<RecoverFault> for StartFault {
             RecoverFault::NotAJournal => StartFault::NotAJournal,
             RecoverFault::Damaged(at) => StartFault::Damaged(at),
             RecoverFault::OutOfMemory => StartFault::OutOfMemory,
+        }
+    }
+}
+
+/// Why no archive was founded.
+#[derive(Clone, Copy, Debug, PartialEq, Eq)]
+pub enum FoundFault {
+    /// The disk failed.
+    DiskFault,
+    /// The file has bytes already, so many.
+    NotEmpty(u64),
+    /// Memory ran out.
+    OutOfMemory,
+}
+
+impl fmt::Display for FoundFault {
+    fn fmt<W: fmt::Write>(&self, f: &mut fmt::Formatter<W>) -> fmt::Result {
+        match self {
+            FoundFault::DiskFault => f.write_str("the disk failed"),
+            FoundFault::NotEmpty(length) => write!(f, "the file has {length} bytes"),
+            FoundFault::OutOfMemory => f.write_str("out of memory"),
+        }
+    }
+}
+
+impl Error for FoundFault {}
+
+impl From<InitFault> for FoundFault {
+    ghost use Rattle.archive_log.specs.Founding.{from_init};
+
+    ghost from_gives = { λ fault found. found ≡ from_init fault };
+
+    fn from(fault: InitFault) -> FoundFault {
+        match fault {
+            InitFault::DiskFault => FoundFault::DiskFault,
+            InitFault::NotEmpty(length) => FoundFault::NotEmpty(length),
         }
     }
 }

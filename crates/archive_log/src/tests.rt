@@ -3,7 +3,7 @@ ghost use Rattle.std.specs.Prelude.{◌≡◌};
 ghost use Rattle.disk_model.specs.View.{WhereTold};
 ghost use Rattle.archive_state.specs.Admits.{IsAdmit};
 
-use crate::{Archive, StartFault};
+use crate::{Archive, FoundFault, StartFault};
 use archive_entry::{Entry, decode};
 use archive_journal::DiskFault;
 use archive_state::Admit;
@@ -87,6 +87,33 @@ fn opens_the_founding_entry(rt: HostRuntime) -> Result<(), Fail> {
             );
         }
         Err((_, fault)) => return Err(fault.into()),
+    }
+    Ok(())
+}
+
+const HA1: &str = "939e7578ed9e3c518a452acee763bce9";
+
+// Founded in an empty file, it is that file; in a file with bytes nothing is founded, and nothing is written.
+#[test]
+fn founds_an_archive(rt: HostRuntime) -> Result<(), Fail> {
+    let alloc = rt.alloc();
+    let file = file_of(alloc, &[FOUNDING])?;
+    match Archive::found(alloc, disk_of(alloc, b"")?, "op", HA1) {
+        Ok(archive) => {
+            assert_eq!(rt; archive.count(), 1);
+            assert_eq!(rt;
+                archive.close().image(Choice::Old)?.as_slice(),
+                file.as_slice()
+            );
+        }
+        Err((_, fault)) => return Err(fault.into()),
+    }
+    match Archive::found(alloc, disk_of(alloc, b"abc")?, "op", HA1) {
+        Ok(_) => return Err("founded over bytes".into()),
+        Err((disk, fault)) => {
+            assert_eq!(rt; fault, FoundFault::NotEmpty(3));
+            assert_eq!(rt; disk.image(Choice::New)?.as_slice(), b"abc".as_slice());
+        }
     }
     Ok(())
 }

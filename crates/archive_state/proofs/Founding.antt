@@ -123,7 +123,7 @@ module _ (name ha1 : Text) (name_is : is_user_name name ≡ true) (ha1_is : is_h
       let high = sizes.1 in
       grind (arith, nat_tests)
 
-  ha1_parts : ((length ha1 == 32) ≡ true) × (list_all is_lower_hex ha1 ≡ true)
+  pub ha1_parts : ((length ha1 == 32) ≡ true) × (list_all is_lower_hex ha1 ≡ true)
   ha1_parts = and_parts (length ha1 == 32) (list_all is_lower_hex ha1) ha1_is
 
   ha1_short : length ha1 ≤ 32

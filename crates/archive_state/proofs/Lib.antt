@@ -3,6 +3,7 @@ pub mod Accepts
 pub mod Checks
 pub mod Examples
 pub mod Founding
+pub mod FoundingEntry
 pub mod Growth
 pub mod Numbers
 pub mod Once

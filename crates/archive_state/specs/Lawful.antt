@@ -40,6 +40,17 @@ is_fit e =
 abbrev pub founding_body : (name ha1 : Text) → List ℕ
 founding_body name ha1 = codes "USR|" ++ name ++ codes "|" ++ ha1 ++ codes "|operator\n"
 
+-- the founding entry of the archive of this operator
+abbrev pub founding_entry : (name ha1 : Text) → Entry
+founding_entry name ha1 = record {
+  number = 1;
+  moment = record { micros = pos 0 };
+  author = name;
+  seq = 0;
+  kind = Revise;
+  body = founding_body name ha1;
+}
+
 -- what stands in such a body between the name and the role
 abbrev pub ha1_behind : (name : Text) → List ℕ → Text
 ha1_behind name body = take 32 (drop (length name + 5) body)

@@ -3,9 +3,12 @@ ghost use Rattle.std.specs.Prelude.{◌≡◌, ◌≤◌, ◌+◌, ◌++◌, ◌
 ghost use Rattle.std.specs.List.{slice_get, list_all};
 ghost use Rattle.std.specs.Str.{bytes_eq};
 ghost use Rattle.mseed_header.specs.Octets.{AreOctets};
+ghost use Rattle.epochs.specs.Fields.{is_ha1, is_user_name};
+ghost use Rattle.epochs.specs.Kinds.{Text};
+ghost use Rattle.archive_entry.specs.Spelling.{IsEntry};
 ghost use Rattle.archive_entry.specs.declared.entry.Entry.{Entry};
 ghost use Rattle.archive_state.specs.History.{live_of, may_post};
-ghost use Rattle.archive_state.specs.Lawful.{is_lawful, is_next};
+ghost use Rattle.archive_state.specs.Lawful.{founding_entry, is_lawful, is_next};
 ghost use Rattle.archive_state.specs.Sendings.{Sending, can_be_sent, after_all};
 ghost use Rattle.archive_state.specs.States.{CanAbsorb};
 ghost use Rattle.archive_state.specs.VerdictLaw.{Says};
@@ -52,6 +55,12 @@ pub fn commands_keep_a_history_lawful()
 /// The next entry of a lawful history can be taken in by a state of that history.
 pub fn the_next_entry_can_be_absorbed()
     ensures { (h : List Entry) (e : Entry) → is_lawful h ≡ true → is_next h e ≡ true → CanAbsorb h e }
+{}
+
+/// The founding entry of an operator comes first in a history, and has a spelling.
+pub fn a_founding_entry_comes_first()
+    ensures first { (name ha1 : Text) → is_user_name name ≡ true → is_ha1 ha1 ≡ true → is_next [] (founding_entry name ha1) ≡ true }
+    ensures spelled { (name ha1 : Text) → is_user_name name ≡ true → is_ha1 ha1 ≡ true → IsEntry (founding_entry name ha1) }
 {}
 
 /// Each verdict says what its name says, in the words of the subject: of the author's role and entries, of the records

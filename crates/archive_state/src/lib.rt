@@ -28,12 +28,12 @@ mod verdict;
 
 pub use admit::Admit;
 pub use law::{
-    a_command_acts_once, a_history_goes_on_with_its_next_entry,
+    a_command_acts_once, a_founding_entry_comes_first, a_history_goes_on_with_its_next_entry,
     an_accepted_command_gets_the_next_number, commands_keep_a_history_lawful,
     the_next_entry_can_be_absorbed, verdicts_in_the_subjects_words,
 };
 pub use limits::Limits;
-pub use opening::founding_body;
+pub use opening::{founding_body, founding_entry};
 pub use posted::Posted;
 pub use state::State;
 pub use verdict::Verdict;

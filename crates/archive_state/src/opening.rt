@@ -2,12 +2,12 @@
 ghost use Rattle.std.specs.Prelude.{◌≡◌, take, drop, IfOk};
 ghost use Rattle.archive_entry.specs.declared.entry.Kind.TheVariants as Kind;
 ghost use Rattle.archive_state.specs.Verdicts.{is_kind};
-ghost use Rattle.archive_state.specs.Lawful.{is_accept, is_fit, is_first, founds, founding_body, is_founding};
+ghost use Rattle.archive_state.specs.Lawful.{is_accept, is_fit, is_first, founds, founding_body, founding_entry, is_founding};
 
 use crate::verdict::Verdict;
 use archive_entry::{Entry, Kind};
 use epochs::{is_ha1, is_user_name};
-use exact_time::{Bytes, OutOfMemory};
+use exact_time::{Bytes, Moment, OutOfMemory, Text};
 use std::alloc::Global;
 
 /// Whether the sequence number is from 1 to 10^18, the body has 1,048,576 bytes at most, and the moment is one of a
@@ -70,6 +70,22 @@ pub fn founding_body(alloc: Global, name: &[u8], ha1: &[u8]) -> Result<Bytes, Ou
     body.extend(ha1)?;
     body.extend(b"|operator\n")?;
     Ok(body)
+}
+
+/// The founding entry of the archive of an operator, whose user name and HA1 are given.
+pub fn founding_entry(alloc: Global, name: &str, ha1: &str) -> Result<Entry, OutOfMemory>
+    ensures { IfOk result (λ entry. entry ≡ founding_entry name.now ha1.now) }
+{
+    let mut author = Text::new(alloc);
+    author.push(name)?;
+    Ok(Entry {
+        number: 1,
+        moment: Moment { micros: 0 },
+        author,
+        seq: 0,
+        kind: Kind::Revise,
+        body: founding_body(alloc, name.as_bytes(), ha1.as_bytes())?,
+    })
 }
 
 // Whether the body makes a user of that name the operator.

@@ -14,6 +14,8 @@ use mseed_header::RecordFault;
 use std::alloc::Global;
 use std::test::Fail;
 
+mod states;
+
 const HA1: &str = "939e7578ed9e3c518a452acee763bce9";
 
 const USERS: &str =

@@ -10,6 +10,8 @@ use Rattle.std.proofs.lemmas.List.{take_rest, get_or-map, take-map, drop-map}
 use Rattle.std.proofs.lemmas.List.Folds.{list_all-map}
 use Rattle.std.proofs.lemmas.Slice.Eq.{bytes_eq-Decides}
 use Rattle.query_parameters.specs.Gets.{text_or}
+use Rattle.centre.specs.declared.commands.CommandName.{CommandName}
+use Rattle.centre.specs.declared.commands.CommandName.TheVariants.{Select}
 use Rattle.centre.specs.Commands.{Text, SelectWords, is_position, is_option, are_options, value_of, limit_of, words_with, select_words_of}
 
 abbrev texts : List (String Global) → List Text
@@ -21,31 +23,31 @@ no_value name [] h = refl
 no_value name (x ∷ []) h = refl
 no_value name (x ∷ y ∷ xs) h = absurd (omega arith)
 
-pub no_options : (words : List (String Global)) → length words < 2 → (length words == 0) ≡ are_options (texts words)
-no_options [] h = refl
-no_options (x ∷ []) h = refl
-no_options (x ∷ y ∷ xs) h = absurd (omega arith)
+pub no_options : (command : CommandName) (words : List (String Global)) → length words < 2 → (length words == 0) ≡ are_options command (texts words)
+no_options command [] h = refl
+no_options command (x ∷ []) h = refl
+no_options command (x ∷ y ∷ xs) h = absurd (omega arith)
 
 -- the first two words, and those behind them
-abbrev is_fine : Text → List Text → Bool
-is_fine name words = is_option name && not (is_some (value_of name words)) && are_options words
+abbrev is_fine : CommandName → Text → List Text → Bool
+is_fine command name words = is_option command name && not (is_some (value_of name words)) && are_options command words
 
-first_option : (words : List (String Global)) (name : String Global) → 2 ≤ length words → name ≡ get_or words 0 name
-    → is_fine (string_bytes name) (texts (drop 2 words)) ≡ are_options (texts words)
-first_option [] name h is = absurd (omega arith)
-first_option (x ∷ []) name h is = absurd (omega arith)
-first_option (x ∷ y ∷ xs) name h is = ap (λ (z : String Global). is_fine (string_bytes z) (texts xs)) is
+first_option : (command : CommandName) (words : List (String Global)) (name : String Global) → 2 ≤ length words → name ≡ get_or words 0 name
+    → is_fine command (string_bytes name) (texts (drop 2 words)) ≡ are_options command (texts words)
+first_option command [] name h is = absurd (omega arith)
+first_option command (x ∷ []) name h is = absurd (omega arith)
+first_option command (x ∷ y ∷ xs) name h is = ap (λ (z : String Global). is_fine command (string_bytes z) (texts xs)) is
 
 abbrev behind : List (String Global) → List (String Global)
 behind words = take (length words - 2) (drop 2 words)
 
 -- the first word names no option
-pub not_option : (words : List (String Global)) (name : String Global) (text : Text) → 2 ≤ length words → name ≡ get_or words 0 name → text ≡ string_bytes name
-    → is_option text ≡ false → false ≡ are_options (texts words)
-not_option words name text h is text_is unknown =
-    let e : is_option (string_bytes name) ≡ false = ap is_option (sym text_is) ∙ unknown in
-    ap (λ b. b && not (is_some (value_of (string_bytes name) (texts (drop 2 words)))) && are_options (texts (drop 2 words))) (sym e)
-    ∙ first_option words name h is
+pub not_option : (command : CommandName) (words : List (String Global)) (name : String Global) (text : Text) → 2 ≤ length words → name ≡ get_or words 0 name → text ≡ string_bytes name
+    → is_option command text ≡ false → false ≡ are_options command (texts words)
+not_option command words name text h is text_is unknown =
+    let e : is_option command (string_bytes name) ≡ false = ap (is_option command) (sym text_is) ∙ unknown in
+    ap (λ b. b && not (is_some (value_of (string_bytes name) (texts (drop 2 words)))) && are_options command (texts (drop 2 words))) (sym e)
+    ∙ first_option command words name h is
 
 -- whether the option is given behind, as it was found there
 found_test : {B : Type 0} (f : B → Text) (found : Option B) (value : Option Text) → option_map f found ≡ value → is_some value ≡ is_some found
@@ -61,29 +63,29 @@ test_behind f words name text found text_is found_is =
     ∙ found_test f found (value_of text (texts (behind words))) found_is
 
 -- the first option is given again
-pub given_twice : {B : Type 0} (f : B → Text) (words : List (String Global)) (name : String Global) (text : Text) (found : Option B) → 2 ≤ length words → name ≡ get_or words 0 name → text ≡ string_bytes name
+pub given_twice : {B : Type 0} (f : B → Text) (command : CommandName) (words : List (String Global)) (name : String Global) (text : Text) (found : Option B) → 2 ≤ length words → name ≡ get_or words 0 name → text ≡ string_bytes name
     → option_map f found ≡ value_of text (texts (behind words)) → is_some found ≡ true
-    → false ≡ are_options (texts words)
-given_twice f words name text found h is text_is found_is some =
+    → false ≡ are_options command (texts words)
+given_twice f command words name text found h is text_is found_is some =
     let e = test_behind f words name text found text_is found_is ∙ some in
     let fresh = not (is_some (value_of (string_bytes name) (texts (drop 2 words)))) in
-    sym (and_left (is_option (string_bytes name) && fresh) (are_options (texts (drop 2 words)))
-    (and_right (is_option (string_bytes name)) fresh (ap not e)))
-    ∙ first_option words name h is
+    sym (and_left (is_option command (string_bytes name) && fresh) (are_options command (texts (drop 2 words)))
+    (and_right (is_option command (string_bytes name)) fresh (ap not e)))
+    ∙ first_option command words name h is
 
 -- the first two words are an option and its value, which isn't given again
-pub more_options : {B : Type 0} (f : B → Text) (words : List (String Global)) (name : String Global) (text other : Text) (found : Option B) → 2 ≤ length words → name ≡ get_or words 0 name
-    → text ≡ string_bytes name → is_option text ≡ true → other ≡ string_bytes name
+pub more_options : {B : Type 0} (f : B → Text) (command : CommandName) (words : List (String Global)) (name : String Global) (text other : Text) (found : Option B) → 2 ≤ length words → name ≡ get_or words 0 name
+    → text ≡ string_bytes name → is_option command text ≡ true → other ≡ string_bytes name
     → option_map f found ≡ value_of other (texts (behind words)) → is_some found ≡ false
-    → are_options (texts (behind words)) ≡ are_options (texts words)
-more_options f words name text other found h is text_is known other_is found_is none =
-    let e : is_option (string_bytes name) ≡ true = ap is_option (sym text_is) ∙ known in
+    → are_options command (texts (behind words)) ≡ are_options command (texts words)
+more_options f command words name text other found h is text_is known other_is found_is none =
+    let e : is_option command (string_bytes name) ≡ true = ap (is_option command) (sym text_is) ∙ known in
     let g = test_behind f words name other found other_is found_is ∙ none in
-    let rest = are_options (texts (drop 2 words)) in
-    ap (λ (ws : List (String Global)). are_options (texts ws)) (take_rest words 2)
+    let rest = are_options command (texts (drop 2 words)) in
+    ap (λ (ws : List (String Global)). are_options command (texts ws)) (take_rest words 2)
     ∙ ap (λ b. not b && rest) (sym g)
     ∙ ap (λ b. b && not (is_some (value_of (string_bytes name) (texts (drop 2 words)))) && rest) (sym e)
-    ∙ first_option words name h is
+    ∙ first_option command words name h is
 
 -- the text of the word at a place
 pub text_at : (words : List (String Global)) (i : ℕ) (word : String Global) (text : Text) → i < length words → word ≡ get_or words i word → text ≡ string_bytes word
@@ -105,13 +107,13 @@ abbrev said : List Text → ℕ → SelectWords
 said ts limit = words_with (get_or ts 1 []) (get_or ts 2 []) (get_or ts 3 []) (get_or ts 4 []) (get_or ts 5 []) (get_or ts 6 []) (drop 7 ts) limit
 
 -- they are those of `select`
-pub are_words : (ts : List Text) → 7 ≤ length ts → get_or ts 0 [] ≡ codes "select" → list_all is_position (take 6 (drop 1 ts)) ≡ true → are_options (drop 7 ts) ≡ true
+pub are_words : (ts : List Text) → 7 ≤ length ts → get_or ts 0 [] ≡ codes "select" → list_all is_position (take 6 (drop 1 ts)) ≡ true → are_options Select (drop 7 ts) ≡ true
     → select_words_of ts ≡ option_map (said ts) (limit_of (value_of (codes "--max-bytes") (drop 7 ts)))
 are_words (q ∷ r ∷ s ∷ t ∷ u ∷ v ∷ w ∷ options) h command positions given =
     let named : bytes_eq q (codes "select") ≡ true = (bytes_eq-Decides q (codes "select")).1 command in
     let all = list_all is_position (r ∷ s ∷ t ∷ u ∷ v ∷ w ∷ []) in
-    let both : (bytes_eq q (codes "select") && all && are_options options) ≡ true =
-    and_from (bytes_eq q (codes "select") && all) (are_options options) (and_from (bytes_eq q (codes "select")) all named positions) given in
+    let both : (bytes_eq q (codes "select") && all && are_options Select options) ≡ true =
+    and_from (bytes_eq q (codes "select") && all) (are_options Select options) (and_from (bytes_eq q (codes "select")) all named positions) given in
     ap (λ (k : Bool). cond k (option_map (words_with r s t u v w options) (limit_of (value_of (codes "--max-bytes") options))) None) both
 are_words [] h command positions given = absurd (omega arith)
 are_words (q ∷ []) h command positions given = absurd (omega arith)
@@ -164,17 +166,17 @@ not_named text other = by_test (bytes_eq text (codes "select")) (bytes_eq-Decide
 pub data IsOther (ts : List Text) : Type 0 where
   another : (get_or ts 0 [] ≡ codes "select" → ⊥) → IsOther ts
   position : list_all is_position (take 6 (drop 1 ts)) ≡ false → IsOther ts
-  option : are_options (drop 7 ts) ≡ false → IsOther ts
+  option : are_options Select (drop 7 ts) ≡ false → IsOther ts
 
 -- they aren't those of `select`
 pub other_words : (ts : List Text) → 7 ≤ length ts → IsOther ts → None ≡ select_words_of ts
 other_words (q ∷ r ∷ s ∷ t ∷ u ∷ v ∷ w ∷ options) h why =
     let named = bytes_eq q (codes "select") in
     let all = list_all is_position (r ∷ s ∷ t ∷ u ∷ v ∷ w ∷ []) in
-    let test : (named && all && are_options options) ≡ false = elim why [
-      | another e ↦ and_left (named && all) (are_options options) (and_left named all (not_named q e))
-      | position e ↦ and_left (named && all) (are_options options) (and_right named all e)
-      | option e ↦ and_right (named && all) (are_options options) e
+    let test : (named && all && are_options Select options) ≡ false = elim why [
+      | another e ↦ and_left (named && all) (are_options Select options) (and_left named all (not_named q e))
+      | position e ↦ and_left (named && all) (are_options Select options) (and_right named all e)
+      | option e ↦ and_right (named && all) (are_options Select options) e
     ] in
     ap (λ (k : Bool). cond k (option_map (words_with r s t u v w options) (limit_of (value_of (codes "--max-bytes") options))) None) (sym test)
 other_words [] h why = absurd (omega arith)

@@ -17,19 +17,22 @@ use Rattle.dataselect.specs.declared.query.Selection.{Selection}
 use Rattle.dataselect.specs.Query.{is_selected, is_asked}
 use Rattle.dataselect.specs.Segments.{segment_length}
 use Rattle.centre.specs.Answers.{IsBodyOf, RefusesInput, IsAnswer}
-use Rattle.centre.specs.Commands.{SelectWords, select, show, is_position, command_of}
+use Rattle.centre.specs.Commands.{SelectWords, InitWords, select, init, show, is_position, command_of}
+use Rattle.centre.specs.Given.{Streams, World, Given}
 use Rattle.centre.specs.OptionsLaw.{named_value, words_of_options}
 use Rattle.centre.specs.Settled.{EndsAs, IsSettled, ComesWhere, HasWritten}
 use Rattle.centre.specs.Status.{status_of, error_text_of}
 use Rattle.streams.specs.View.{StreamView}
-use Rattle.centre.specs.Table.{World, Tells, IsSelected, IsRun}
+use Rattle.centre.specs.Table.{Tells, IsSelected, IsRun}
+use Rattle.disk_model.specs.View.{DiskView}
+use Rattle.disk_model.specs.Untold.{untold_view}
 use Rattle.centre.specs.Had.{Had}
 use Rattle.centre.specs.Words.{AreSelectOptions, IsSelectQuery, RefusesSelectWords, time_words, option_words}
 use Rattle.centre.proofs.OneQuery.{all_read}
 use Rattle.centre.specs.declared.help.Shown.TheVariants.{Help, Version, SelectHelp}
 use Rattle.centre.specs.declared.ending.Word.TheVariants.{Network as NetworkWord, Station as StationWord, Location as LocationWord, Channel as ChannelWord}
 use Rattle.centre.specs.declared.ending.Refusal.{Refusal}
-use Rattle.centre.specs.declared.ending.Refusal.TheVariants.{UnknownCommand, Value, Order, Record}
+use Rattle.centre.specs.declared.ending.Refusal.TheVariants.{UnknownCommand, Value, Order, Record, NotEmpty}
 use Rattle.centre.specs.declared.ending.Stop.TheVariants.{Refused, ReadFault}
 
 position : is_position (codes "BH?") ≡ true
@@ -48,13 +51,33 @@ out_of_order = refl
 two_words : command_of (codes "select" ∷ codes "IU" ∷ []) ≡ None
 two_words = refl
 
+-- `init` with its three options, in any order; an HA1 in upper case makes no command, nor does an option that is left out
+abbrev op_words : InitWords
+op_words = record { journal = codes "a.journal"; operator = codes "op"; ha1 = codes "939e7578ed9e3c518a452acee763bce9" }
+
+init_asked : command_of (codes "init" ∷ codes "--ha1" ∷ codes "939e7578ed9e3c518a452acee763bce9" ∷ codes "--operator" ∷ codes "op" ∷ codes "--journal" ∷ codes "a.journal" ∷ []) ≡ Some (init op_words)
+init_asked = refl
+
+upper_case : command_of (codes "init" ∷ codes "--journal" ∷ codes "a.journal" ∷ codes "--operator" ∷ codes "op" ∷ codes "--ha1" ∷ codes "939E7578ED9E3C518A452ACEE763BCE9" ∷ []) ≡ None
+upper_case = refl
+
+no_operator : command_of (codes "init" ∷ codes "--journal" ∷ codes "a.journal" ∷ codes "--ha1" ∷ codes "939e7578ed9e3c518a452acee763bce9" ∷ []) ≡ None
+no_operator = refl
+
+-- it makes an archive in an empty file alone
+made : IsAnswer (Some (init op_words)) (record { input = anmo_image; file = [] }) (Ok [])
+made = (refl, refl)
+
+not_made : IsAnswer (Some (init op_words)) (record { input = []; file = codes "abc" }) (Err NotEmpty)
+not_made = λ e. cc
+
 help_asked : command_of (codes "--help" ∷ []) ≡ Some (show Help)
 help_asked = refl
 
 select_help_asked : command_of (codes "select" ∷ codes "--help" ∷ []) ≡ Some (show SelectHelp)
 select_help_asked = refl
 
-version_asked : IsAnswer (Some (show Version)) [] (Ok (codes "centre 0.1.0\n"))
+version_asked : IsAnswer (Some (show Version)) (record { input = []; file = [] }) (Ok (codes "centre 0.1.0\n"))
 version_asked = refl
 
 -- seven words are, where none of them begins with a hyphen
@@ -243,27 +266,39 @@ body = record { within = omega arith; rows = anmo_row ∷ []; records = row; som
 refused : RefusesInput all_year 67_108_864 (anmo_image ++ codes "000002") (Record 512 Short)
 refused = record { within = omega arith; first = second }
 
-answer : IsAnswer (Some (select words)) anmo_image (Ok anmo_image)
+abbrev anmo_given : Given
+anmo_given = record { input = anmo_image; file = [] }
+
+answer : IsAnswer (Some (select words)) anmo_given (Ok anmo_image)
 answer = (all_year, asked_all, body)
 
 -- a run that wrote it, and one that told why it didn't begin
-abbrev before : World
-before = record {
+abbrev no_disk : Unit {0} → DiskView
+no_disk disk = untold_view 0
+
+abbrev streams_before : Streams
+streams_before = record {
   source = record { left = Some anmo_image; written = None; faults = 0 };
   sink = record { left = None; written = Some []; faults = 0 };
 }
 
-abbrev after : World
-after = record {
+abbrev before : World (Unit {0})
+before = record { streams = streams_before; disk = tt }
+
+abbrev streams_after : Streams
+streams_after = record {
   source = record { left = Some []; written = None; faults = 0 };
   sink = record { left = None; written = Some anmo_image; faults = 0 };
 }
 
-selected : IsSelected words before after
+abbrev after : World (Unit {0})
+after = record { streams = streams_after; disk = tt }
+
+selected : IsSelected words streams_before streams_after
 selected = record { input = anmo_image; body = anmo_image; had = refl; answer = answer; end = refl; output = refl }
 
-written : HasWritten (Some (select words)) before after
-written = record { input = anmo_image; body = anmo_image; had = refl; answer = answer; output = refl }
+written : HasWritten no_disk (Some (select words)) before after
+written = record { given = anmo_given; body = anmo_image; had = refl; answer = answer; output = refl }
 
 abbrev silent : StreamView
 silent = record { left = None; written = Some []; faults = 0 }
@@ -274,16 +309,16 @@ told = record { left = None; written = Some (codes "centre: unknown command line
 told_unknown : Tells silent told (codes "centre: unknown command line\n")
 told_unknown = record { part = record { part = codes "centre: unknown command line\n"; rest = []; split = refl; output = refl }; whole = inl refl }
 
-run : IsRun None before before silent told 1
+run : IsRun no_disk None before before silent told 1
 run = record { ending = Err (Refused UnknownCommand); row = refl; status_is = refl; text = told_unknown }
 
 -- what words that are no command determine, whatever the input
 ends : EndsAs (Err UnknownCommand) silent told 1
 ends = record { status_is = refl; text = told_unknown }
 
-settled : IsSettled None anmo_image silent told 1
+settled : IsSettled None anmo_given silent told 1
 settled = λ answer is. inr (subst (λ (a : Result (List ℕ) Refusal). EndsAs a silent told 1) (sym is) ends)
 
 -- a status that comes exactly where its cause holds
-unknown_comes : ComesWhere 1 1 (IsAnswer None anmo_image (Err UnknownCommand))
+unknown_comes : ComesWhere 1 1 (IsAnswer None anmo_given (Err UnknownCommand))
 unknown_comes = record { only = λ e. refl; always = λ cause. inr refl }

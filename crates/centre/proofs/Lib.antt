@@ -1,5 +1,6 @@
 pub mod Arguments
 pub mod Examples
+pub mod InitWords
 pub mod Inputs
 pub mod OneAnswer
 pub mod OneQuery

@@ -8,9 +8,10 @@ use Rattle.mseed_header.proofs.Rows.{one_batch, one_first_bad, no_batch}
 use Rattle.dataselect.specs.declared.query.DataQuery.{DataQuery}
 use Rattle.centre.specs.Limits.{most_input}
 use Rattle.centre.specs.declared.ending.Refusal.{Refusal}
-use Rattle.centre.specs.declared.ending.Refusal.TheVariants.{UnknownCommand, Value, Order, Record, NoData, TooLarge, InputTooLong}
-use Rattle.centre.specs.Answers.{IsBodyOf, HasBadRecord, RefusesInput, IsSelectAnswer, IsAnswer, places_for, body_for, epoch}
-use Rattle.centre.specs.Commands.{SelectWords, Command, select, show}
+use Rattle.centre.specs.declared.ending.Refusal.TheVariants.{UnknownCommand, Value, Order, Record, NoData, TooLarge, InputTooLong, NotEmpty}
+use Rattle.centre.specs.Answers.{IsBodyOf, HasBadRecord, RefusesInput, IsSelectAnswer, IsInitAnswer, IsAnswer, places_for, body_for, epoch}
+use Rattle.centre.specs.Commands.{SelectWords, Command, select, init, show}
+use Rattle.centre.specs.Given.{Given}
 use Rattle.centre.specs.Words.{IsSelectQuery}
 use Rattle.centre.proofs.OneQuery.{one_query, no_refusal, one_refusal}
 
@@ -84,6 +85,7 @@ found query limit input (Err InputTooLong) h = long (record { long = h; answer_i
 found query limit input (Err UnknownCommand) h = absurd h
 found query limit input (Err (Value word)) h = absurd h
 found query limit input (Err Order) h = absurd h
+found query limit input (Err NotEmpty) h = absurd h
 
 one_found : (query : DataQuery) (limit : ℕ) (input : List ℕ) (a b : Result (List ℕ) Refusal) → Found query limit input a → Found query limit input b → a ≡ b
 one_found query limit input a b (whole h) (whole k) =
@@ -115,7 +117,27 @@ one_select w input (Err r) (Err s) (inl h) (inr k) = absurd (no_refusal w k.0 r 
 one_select w input (Err r) (Err s) (inr h) (inl k) = absurd (no_refusal w h.0 s h.1 k)
 one_select w input (Err r) (Err s) (inr h) (inr k) = one_given w input h.0 k.0 (Err r) (Err s) h.1 k.1 h.2 k.2
 
-pub one_answer : (command : Option Command) (input : List ℕ) (a b : Result (List ℕ) Refusal) → IsAnswer command input a → IsAnswer command input b → a ≡ b
-one_answer None input a b h k = h ∙ sym k
-one_answer (Some (show shown)) input a b h k = h ∙ sym k
-one_answer (Some (select w)) input a b h k = one_select w input a b h k
+-- the file decides
+by_file : List ℕ → Result (List ℕ) Refusal
+by_file [] = Ok []
+by_file (x ∷ xs) = Err NotEmpty
+
+made_by : (file : List ℕ) (a : Result (List ℕ) Refusal) → IsInitAnswer file a → a ≡ by_file file
+unfolding by_file
+made_by [] (Ok body) h = ap Ok h.1
+made_by (x ∷ xs) (Ok body) h = absurd (let e = h.0 in cc)
+made_by [] (Err NotEmpty) h = absurd (h refl)
+made_by (x ∷ xs) (Err NotEmpty) h = refl
+made_by file (Err UnknownCommand) h = absurd h
+made_by file (Err (Value word)) h = absurd h
+made_by file (Err Order) h = absurd h
+made_by file (Err (Record at fault)) h = absurd h
+made_by file (Err NoData) h = absurd h
+made_by file (Err (TooLarge bytes limit)) h = absurd h
+made_by file (Err InputTooLong) h = absurd h
+
+pub one_answer : (command : Option Command) (given : Given) (a b : Result (List ℕ) Refusal) → IsAnswer command given a → IsAnswer command given b → a ≡ b
+one_answer None given a b h k = h ∙ sym k
+one_answer (Some (show shown)) given a b h k = h ∙ sym k
+one_answer (Some (select w)) given a b h k = one_select w given.input a b h k
+one_answer (Some (init w)) given a b h k = made_by given.file a h ∙ sym (made_by given.file b k)

@@ -11,7 +11,7 @@ use Rattle.mseed_header.specs.declared.quality.Quality.{Quality}
 use Rattle.dataselect.specs.declared.query.DataQuery.{DataQuery}
 use Rattle.dataselect.specs.declared.query.Selection.{Selection}
 use Rattle.centre.specs.declared.ending.Refusal.{Refusal}
-use Rattle.centre.specs.declared.ending.Refusal.TheVariants.{UnknownCommand, Value, Order, Record, NoData, TooLarge, InputTooLong}
+use Rattle.centre.specs.declared.ending.Refusal.TheVariants.{UnknownCommand, Value, Order, Record, NoData, TooLarge, InputTooLong, NotEmpty}
 use Rattle.centre.specs.Commands.{SelectWords}
 use Rattle.query_parameters.specs.Values.{quality_of, flag_of}
 use Rattle.query_parameters.proofs.Minimums.{one_minimum}
@@ -70,6 +70,7 @@ no_refusal w q (Record at fault) h k = k
 no_refusal w q NoData h k = k
 no_refusal w q (TooLarge bytes limit) h k = k
 no_refusal w q InputTooLong h k = k
+no_refusal w q NotEmpty h k = k
 
 pub one_refusal : (w : SelectWords) (r s : Refusal) → RefusesSelectWords w r → RefusesSelectWords w s → r ≡ s
 one_refusal w (Value a) (Value b) h k = ap Value (one_without (CanReadWord w) tested_words a b h k)
@@ -81,8 +82,10 @@ one_refusal w r (Record at fault) h k = absurd k
 one_refusal w r NoData h k = absurd k
 one_refusal w r (TooLarge bytes limit) h k = absurd k
 one_refusal w r InputTooLong h k = absurd k
+one_refusal w r NotEmpty h k = absurd k
 one_refusal w UnknownCommand s h k = absurd h
 one_refusal w (Record at fault) s h k = absurd h
 one_refusal w NoData s h k = absurd h
 one_refusal w (TooLarge bytes limit) s h k = absurd h
 one_refusal w InputTooLong s h k = absurd h
+one_refusal w NotEmpty s h k = absurd h

@@ -12,6 +12,8 @@ use Rattle.std.proofs.lemmas.Map.Keys.{IsDistinct-IsPermutation}
 use Rattle.std.proofs.lemmas.Map.Made.{AllPairs-from_IsDistinct, IsDistinct-from_AllPairs}
 use Rattle.std.proofs.lemmas.Map.Views.{list_any-from_Contains, Contains-from_any}
 use Rattle.std.proofs.lemmas.Slice.Eq.{bytes_eq-Decides}
+use Rattle.centre.specs.declared.commands.CommandName.{CommandName}
+use Rattle.centre.specs.declared.commands.CommandName.TheVariants.{Select, Init}
 use Rattle.centre.specs.Commands.{Text, is_option, are_options, value_of}
 use Rattle.centre.specs.OptionsLaw.{NamedValue, named_value, words_of_options, option_names, AreOptionsApart, AreWordsOfOptions}
 
@@ -44,16 +46,23 @@ any_of_four false false true d = refl
 any_of_four false false false true = refl
 any_of_four false false false false = refl
 
--- the test of a name looks it up among the four
-looked_up : (name : Text) → is_option name ≡ list_any (bytes_eq name) option_names
-looked_up name =
+any_of_three : (a b c : Bool) → (a || b || c) ≡ (a || (b || (c || false)))
+any_of_three true b c = refl
+any_of_three false true c = refl
+any_of_three false false true = refl
+any_of_three false false false = refl
+
+-- the test of a name looks it up among the command's
+looked_up : (command : CommandName) (name : Text) → is_option command name ≡ list_any (bytes_eq name) (option_names command)
+looked_up Select name =
     any_of_four (bytes_eq name (codes "--quality")) (bytes_eq name (codes "--minimum")) (bytes_eq name (codes "--longest")) (bytes_eq name (codes "--max-bytes"))
+looked_up Init name = any_of_three (bytes_eq name (codes "--journal")) (bytes_eq name (codes "--operator")) (bytes_eq name (codes "--ha1"))
 
-name_known : (name : Text) → is_option name ≡ true → Contains option_names name
-name_known name e = Contains-from_any (λ a b. (bytes_eq-Decides a b).0) name option_names (sym (looked_up name) ∙ e)
+name_known : (command : CommandName) (name : Text) → is_option command name ≡ true → Contains (option_names command) name
+name_known command name e = Contains-from_any (λ a b. (bytes_eq-Decides a b).0) name (option_names command) (sym (looked_up command name) ∙ e)
 
-known_name : (name : Text) → Contains option_names name → is_option name ≡ true
-known_name name h = looked_up name ∙ list_any-from_Contains texts_equal name option_names h
+known_name : (command : CommandName) (name : Text) → Contains (option_names command) name → is_option command name ≡ true
+known_name command name h = looked_up command name ∙ list_any-from_Contains texts_equal name (option_names command) h
 
 abbrev names : List NamedValue → List Text
 names options = map (λ option. option.name) options
@@ -82,55 +91,55 @@ none_is : {A : Type 0} (o : Option A) → not (is_some o) ≡ true → o ≡ Non
 none_is None e = refl
 none_is (Some x) e = absurd (cc)
 
-abbrev AreKnown : List NamedValue → Type 0
-AreKnown options = AllByRecursion (λ option. Contains option_names option.name) options
+abbrev AreKnown : CommandName → List NamedValue → Type 0
+AreKnown command options = AllByRecursion (λ option. Contains (option_names command) option.name) options
 
 -- what the test of words says of options
-tested : (options : List NamedValue) → are_options (words_of_options options) ≡ true → AreKnown options × IsDistinct bytes_eq (names options)
+tested : (command : CommandName) (options : List NamedValue) → are_options command (words_of_options options) ≡ true → AreKnown command options × IsDistinct bytes_eq (names options)
 unfolding IsDistinct
-tested [] e = (tt, tt)
-tested (o ∷ options) e =
+tested command [] e = (tt, tt)
+tested command (o ∷ options) e =
     let value = value_of o.name (words_of_options options) in
-    let parts = and_parts (is_option o.name && not (is_some value)) (are_options (words_of_options options)) e in
-    let first = and_parts (is_option o.name) (not (is_some value)) parts.0 in
-    let rest = tested options parts.1 in
-    ((name_known o.name first.0, rest.0), (no_name o.name options (none_is value first.1), rest.1))
+    let parts = and_parts (is_option command o.name && not (is_some value)) (are_options command (words_of_options options)) e in
+    let first = and_parts (is_option command o.name) (not (is_some value)) parts.0 in
+    let rest = tested command options parts.1 in
+    ((name_known command o.name first.0, rest.0), (no_name o.name options (none_is value first.1), rest.1))
 
-passes : (options : List NamedValue) → AreKnown options → IsDistinct bytes_eq (names options) → are_options (words_of_options options) ≡ true
+passes : (command : CommandName) (options : List NamedValue) → AreKnown command options → IsDistinct bytes_eq (names options) → are_options command (words_of_options options) ≡ true
 unfolding IsDistinct
-passes [] known once = refl
-passes (o ∷ options) known once =
+passes command [] known once = refl
+passes command (o ∷ options) known once =
     let value = value_of o.name (words_of_options options) in
     let fresh : not (is_some value) ≡ true = ap (λ (v : Option Text). not (is_some v)) (unnamed o.name options once.0) in
-    and_from (is_option o.name && not (is_some value)) (are_options (words_of_options options))
-    (and_from (is_option o.name) (not (is_some value)) (known_name o.name known.0) fresh) (passes options known.1 once.1)
+    and_from (is_option command o.name && not (is_some value)) (are_options command (words_of_options options))
+    (and_from (is_option command o.name) (not (is_some value)) (known_name command o.name known.0) fresh) (passes command options known.1 once.1)
 
-apart_from : (options : List NamedValue) → are_options (words_of_options options) ≡ true → AreOptionsApart options
-apart_from options e =
-    let h = tested options e in
+apart_from : (command : CommandName) (options : List NamedValue) → are_options command (words_of_options options) ≡ true → AreOptionsApart command options
+apart_from command options e =
+    let h = tested command options e in
     record {
-      known = All-from_recursion (λ option. Contains option_names option.name) options h.0;
+      known = All-from_recursion (λ option. Contains (option_names command) option.name) options h.0;
       once = AllPairs-from_IsDistinct bytes_eq-Decides (names options) h.1;
     }
 
-apart_to : (options : List NamedValue) → AreOptionsApart options → are_options (words_of_options options) ≡ true
-apart_to options h =
-    passes options (recursion_from_All (λ option. Contains option_names option.name) options h.known) (IsDistinct-from_AllPairs bytes_eq-Decides (names options) h.once)
+apart_to : (command : CommandName) (options : List NamedValue) → AreOptionsApart command options → are_options command (words_of_options options) ≡ true
+apart_to command options h =
+    passes command options (recursion_from_All (λ option. Contains (option_names command) option.name) options h.known) (IsDistinct-from_AllPairs bytes_eq-Decides (names options) h.once)
 
 -- words that pass are in pairs
-in_pairs : (words : List Text) → are_options words ≡ true → (options : List NamedValue) × (words ≡ words_of_options options)
-in_pairs [] e = ([], refl)
-in_pairs (word ∷ []) e = absurd (cc)
-in_pairs (name ∷ value ∷ words) e =
-    let parts = and_parts (is_option name && not (is_some (value_of name words))) (are_options words) e in
-    let rest = in_pairs words parts.1 in
+in_pairs : (command : CommandName) (words : List Text) → are_options command words ≡ true → (options : List NamedValue) × (words ≡ words_of_options options)
+in_pairs command [] e = ([], refl)
+in_pairs command (word ∷ []) e = absurd (cc)
+in_pairs command (name ∷ value ∷ words) e =
+    let parts = and_parts (is_option command name && not (is_some (value_of name words))) (are_options command words) e in
+    let rest = in_pairs command words parts.1 in
     (named_value name value ∷ rest.0, ap (λ (ws : List Text). name ∷ value ∷ ws) rest.1)
 
-pub option_words : (words : List Text) → IsTrue (are_options words) ↔ AreWordsOfOptions words
-option_words words = (
-  λ e. let pairs = in_pairs words e in
-      record { options = pairs.0; words_are = pairs.1; apart = apart_from pairs.0 (ap are_options (sym pairs.1) ∙ e) },
-  λ h. ap are_options h.words_are ∙ apart_to h.options h.apart,
+pub option_words : (command : CommandName) (words : List Text) → IsTrue (are_options command words) ↔ AreWordsOfOptions command words
+option_words command words = (
+  λ e. let pairs = in_pairs command words e in
+      record { options = pairs.0; words_are = pairs.1; apart = apart_from command pairs.0 (ap (are_options command) (sym pairs.1) ∙ e) },
+  λ h. ap (are_options command) h.words_are ∙ apart_to command h.options h.apart,
 )
 
 first_value : (name first value found : Text) (rest : Option Text) (b : Bool) → bytes_eq first name ≡ b → cond b (Some value) rest ≡ Some found → (named_value first value ≡ named_value name found) ⊎ (rest ≡ Some found)
@@ -176,32 +185,32 @@ value_from name value (o ∷ options) once h =
           ap (λ (b : Bool). cond b (Some o.value) (value_of name (words_of_options options))) e ∙ value_from name value options once.1 behind
     ]
 
-pub option_value : (options : List NamedValue) → AreOptionsApart options → (name value : Text)
+pub option_value : (command : CommandName) (options : List NamedValue) → AreOptionsApart command options → (name value : Text)
     → (value_of name (words_of_options options) ≡ Some value) ↔ Contains options (named_value name value)
-option_value options apart name value =
+option_value command options apart name value =
     (value_in name value options, value_from name value options (IsDistinct-from_AllPairs bytes_eq-Decides (names options) apart.once))
 
 -- options in another order
-moved : (options others : List NamedValue) → IsPermutation options others → AreOptionsApart options → AreOptionsApart others
-moved options others h apart = record {
-  known = All-permutation (λ option. Contains option_names option.name) options others h apart.known;
+moved : (command : CommandName) (options others : List NamedValue) → IsPermutation options others → AreOptionsApart command options → AreOptionsApart command others
+moved command options others h apart = record {
+  known = All-permutation (λ option. Contains (option_names command) option.name) options others h apart.known;
   once =
       let keys = IsPermutation-map (λ (option : NamedValue). option.name) options others h in
       AllPairs-from_IsDistinct bytes_eq-Decides (names others)
       (IsDistinct-IsPermutation bytes_eq flips (names options) (names others) keys (IsDistinct-from_AllPairs bytes_eq-Decides (names options) apart.once));
 }
 
-pub any_order : (options others : List NamedValue) → IsPermutation options others → are_options (words_of_options options) ≡ are_options (words_of_options others)
-any_order options others h =
+pub any_order : (command : CommandName) (options others : List NamedValue) → IsPermutation options others → are_options command (words_of_options options) ≡ are_options command (words_of_options others)
+any_order command options others h =
     let back = IsPermutation-sym options others h in
-    same_bool (are_options (words_of_options options)) (are_options (words_of_options others))
-    (λ e. apart_to others (moved options others h (apart_from options e)))
-    (λ e. apart_to options (moved others options back (apart_from others e)))
+    same_bool (are_options command (words_of_options options)) (are_options command (words_of_options others))
+    (λ e. apart_to command others (moved command options others h (apart_from command options e)))
+    (λ e. apart_to command options (moved command others options back (apart_from command others e)))
 
-pub same_values : (options others : List NamedValue) → IsPermutation options others → AreOptionsApart options → (name : Text)
+pub same_values : (command : CommandName) (options others : List NamedValue) → IsPermutation options others → AreOptionsApart command options → (name : Text)
     → value_of name (words_of_options options) ≡ value_of name (words_of_options others)
-same_values options others h apart name =
+same_values command options others h apart name =
     let back = IsPermutation-sym options others h in
     same_option (value_of name (words_of_options options)) (value_of name (words_of_options others))
-    (λ value e. (option_value others (moved options others h apart) name value).1 (Contains-permutation options others (named_value name value) h ((option_value options apart name value).0 e)))
-    (λ value e. (option_value options apart name value).1 (Contains-permutation others options (named_value name value) back ((option_value others (moved options others h apart) name value).0 e)))
+    (λ value e. (option_value command others (moved command options others h apart) name value).1 (Contains-permutation options others (named_value name value) h ((option_value command options apart name value).0 e)))
+    (λ value e. (option_value command options apart name value).1 (Contains-permutation others options (named_value name value) back ((option_value command others (moved command options others h apart) name value).0 e)))

@@ -7,19 +7,25 @@ use Rattle.dataselect.specs.declared.query.DataQuery.{DataQuery}
 use Rattle.dataselect.specs.declared.answers.DataRefusal.{DataRefusal}
 use Rattle.dataselect.specs.declared.answers.DataRefusal.TheVariants.{Empty, TooLarge as TooMuch, OutOfMemory as NoMemory}
 use Rattle.exact_time.specs.Causes.{Rose}
+use Rattle.disk_model.specs.View.{DiskView}
+use Rattle.archive_entry.specs.declared.entry.Entry.{Entry}
+use Rattle.archive_log.specs.Founding.{MakesArchive}
+use Rattle.archive_log.specs.declared.fault.FoundFault.{FoundFault}
+use Rattle.archive_log.specs.declared.fault.FoundFault.TheVariants as found
 use Rattle.dataselect.specs.Rows.{held_rows}
 use Rattle.dataselect.proofs.Fewer.{only_asked}
 use Rattle.dataselect.specs.DataBody.{answer_of, body_or_empty, images_at, RefusesAs}
 use Rattle.centre.specs.Limits.{most_input}
-use Rattle.centre.specs.declared.ending.Refusal.TheVariants.{UnknownCommand, Value, Order, Record, NoData, TooLarge, InputTooLong}
+use Rattle.centre.specs.declared.ending.Refusal.TheVariants.{UnknownCommand, Value, Order, Record, NoData, TooLarge, InputTooLong, NotEmpty}
 use Rattle.centre.specs.declared.ending.Stop.{Stop}
-use Rattle.centre.specs.declared.ending.Stop.TheVariants.{Refused, ReadFault, WriteFault, OutOfMemory}
+use Rattle.centre.specs.declared.ending.Stop.TheVariants.{Refused, ReadFault, WriteFault, DiskFault, OutOfMemory}
 use Rattle.centre.specs.Answers.{IsBodyOf, RefusesInput, places_for, all_seen, stop_for_data}
 use Rattle.streams.specs.Effects.{Grew, WritesPart}
 use Rattle.streams.specs.View.{StreamView}
-use Rattle.centre.specs.Commands.{SelectWords, Command, select, show}
+use Rattle.centre.specs.Commands.{SelectWords, InitWords, Command, select, init, show}
 use Rattle.centre.specs.Shown.{text_shown}
-use Rattle.centre.specs.Table.{World, Tells, SelectRow, ShowRow, UnknownRow, IsEnding, ToldFor}
+use Rattle.centre.specs.Given.{Streams, World}
+use Rattle.centre.specs.Table.{Tells, IsInit, SelectRow, ShowRow, InitRow, UnknownRow, IsEnding, ToldFor, stop_for_founding}
 use Rattle.centre.specs.declared.ending.Refusal.{Refusal}
 use Rattle.centre.specs.Had.{Had}
 use Rattle.centre.specs.Intake.{AreAsked, HasTaken, IntakeStops}
@@ -27,20 +33,23 @@ use Rattle.centre.proofs.Inputs.{had_all}
 use Rattle.centre.specs.Words.{IsSelectQuery, RefusesSelectWords, StopsWith}
 
 -- the words are refused
-pub words_row : (w : SelectWords) (world : World) (stop : Stop) → StopsWith (RefusesSelectWords w) stop → SelectRow w world world (Err stop)
+pub words_row : (w : SelectWords) (world : Streams) (stop : Stop) → StopsWith (RefusesSelectWords w) stop → SelectRow w world world (Err stop)
 words_row w world (Refused refusal) why = inl (record { why = why; same = refl })
 words_row w world OutOfMemory why = refl
 words_row w world ReadFault why = absurd why
 words_row w world WriteFault why = absurd why
+words_row w world DiskFault why = absurd why
 
 -- taking the input stopped
-pub read_row : (w : SelectWords) (query : DataQuery) (before after : World) (stop : Stop) → IsSelectQuery w query → after.sink ≡ before.sink
+pub read_row : (w : SelectWords) (query : DataQuery) (before after : Streams) (stop : Stop) → IsSelectQuery w query → after.sink ≡ before.sink
     → IntakeStops before.source after.source stop → SelectRow w before after (Err stop)
 read_row w query before after ReadFault asked kept why = record { query = query; asked = asked; rose = why; kept = kept }
 read_row w query before after (Refused InputTooLong) asked kept why =
     inr (record { input = why.input; query = query; had = why.had; asked = asked; why = why.long; kept = kept })
 read_row w query before after OutOfMemory asked kept why = kept
 read_row w query before after WriteFault asked kept why = absurd why
+read_row w query before after DiskFault asked kept why = absurd why
+read_row w query before after (Refused NotEmpty) asked kept why = absurd why
 read_row w query before after (Refused UnknownCommand) asked kept why = absurd why
 read_row w query before after (Refused (Value word)) asked kept why = absurd why
 read_row w query before after (Refused Order) asked kept why = absurd why
@@ -50,25 +59,29 @@ read_row w query before after (Refused NoData) asked kept why = absurd why
 read_row w query before after (Refused (TooLarge bytes limit)) asked kept why = absurd why
 
 -- the input is refused
-pub input_row : (w : SelectWords) (query : DataQuery) (input : List ℕ) (before after : World) (stop : Stop) → IsSelectQuery w query → Had before.source.left input → after.sink ≡ before.sink
+pub input_row : (w : SelectWords) (query : DataQuery) (input : List ℕ) (before after : Streams) (stop : Stop) → IsSelectQuery w query → Had before.source.left input → after.sink ≡ before.sink
     → StopsWith (RefusesInput query w.limit input) stop → SelectRow w before after (Err stop)
 input_row w query input before after (Refused refusal) asked had kept why =
     inr (record { input = input; query = query; had = had; asked = asked; why = why; kept = kept })
 input_row w query input before after OutOfMemory asked had kept why = kept
 input_row w query input before after ReadFault asked had kept why = absurd why
 input_row w query input before after WriteFault asked had kept why = absurd why
+input_row w query input before after DiskFault asked had kept why = absurd why
+
+pub same_sink : (before after : Streams) → after ≡ before → after.sink ≡ before.sink
+same_sink before after same = λ i. (same i).sink
 
 -- what is told has the row of the stop: want of memory, told in its stead, leaves the sink as it was
-starved : (w : SelectWords) (before after : World) (refusal : Refusal) → SelectRow w before after (Err (Refused refusal)) → SelectRow w before after (Err OutOfMemory)
-starved w before after refusal row = elim row [ inl by_words ↦ ap (λ (x : World). x.sink) by_words.same | inr by_input ↦ by_input.kept ]
+starved : (w : SelectWords) (before after : Streams) (refusal : Refusal) → SelectRow w before after (Err (Refused refusal)) → SelectRow w before after (Err OutOfMemory)
+starved w before after refusal row = elim row [ inl by_words ↦ same_sink before after by_words.same | inr by_input ↦ by_input.kept ]
 
-made_row : (w : SelectWords) (before after : World) (refusal : Refusal) (told : Stop) → SelectRow w before after (Err (Refused refusal)) → (told ≡ Refused refusal) ⊎ (told ≡ OutOfMemory)
+made_row : (w : SelectWords) (before after : Streams) (refusal : Refusal) (told : Stop) → SelectRow w before after (Err (Refused refusal)) → (told ≡ Refused refusal) ⊎ (told ≡ OutOfMemory)
     → SelectRow w before after (Err told)
 made_row w before after refusal told row e =
     let P : Stop → Type 0 = λ s. SelectRow w before after (Err s) in
     elim e [ inl same ↦ subst P (sym same) row | inr none ↦ subst P (sym none) (starved w before after refusal row) ]
 
-told_select : (w : SelectWords) (before after : World) (stop told : Stop) → SelectRow w before after (Err stop) → ToldFor stop told → SelectRow w before after (Err told)
+told_select : (w : SelectWords) (before after : Streams) (stop told : Stop) → SelectRow w before after (Err stop) → ToldFor stop told → SelectRow w before after (Err told)
 told_select w before after (Refused (Record at fault)) told row e = made_row w before after (Record at fault) told row e
 told_select w before after (Refused (TooLarge bytes limit)) told row e = made_row w before after (TooLarge bytes limit) told row e
 told_select w before after (Refused UnknownCommand) told row e = let P : Stop → Type 0 = λ s. SelectRow w before after (Err s) in subst P (sym e) row
@@ -76,17 +89,20 @@ told_select w before after (Refused (Value word)) told row e = let P : Stop → 
 told_select w before after (Refused Order) told row e = let P : Stop → Type 0 = λ s. SelectRow w before after (Err s) in subst P (sym e) row
 told_select w before after (Refused NoData) told row e = let P : Stop → Type 0 = λ s. SelectRow w before after (Err s) in subst P (sym e) row
 told_select w before after (Refused InputTooLong) told row e = let P : Stop → Type 0 = λ s. SelectRow w before after (Err s) in subst P (sym e) row
+told_select w before after (Refused NotEmpty) told row e = let P : Stop → Type 0 = λ s. SelectRow w before after (Err s) in subst P (sym e) row
+told_select w before after DiskFault told row e = absurd row
 told_select w before after ReadFault told row e = let P : Stop → Type 0 = λ s. SelectRow w before after (Err s) in subst P (sym e) row
 told_select w before after WriteFault told row e = let P : Stop → Type 0 = λ s. SelectRow w before after (Err s) in subst P (sym e) row
 told_select w before after OutOfMemory told row e = let P : Stop → Type 0 = λ s. SelectRow w before after (Err s) in subst P (sym e) row
 
-told_show : (text : List ℕ) (before after : World) (stop told : Stop) → ShowRow text before after (Err stop) → ToldFor stop told → ShowRow text before after (Err told)
+told_show : (text : List ℕ) (before after : Streams) (stop told : Stop) → ShowRow text before after (Err stop) → ToldFor stop told → ShowRow text before after (Err told)
 told_show text before after WriteFault told row e = let P : Stop → Type 0 = λ s. ShowRow text before after (Err s) in subst P (sym e) row
 told_show text before after (Refused refusal) told row e = absurd row
 told_show text before after ReadFault told row e = absurd row
+told_show text before after DiskFault told row e = absurd row
 told_show text before after OutOfMemory told row e = absurd row
 
-told_unknown : (before after : World) (stop told : Stop) → UnknownRow before after (Err stop) → ToldFor stop told → UnknownRow before after (Err told)
+told_unknown : {D : Type 0} (before after : World D) (stop told : Stop) → UnknownRow before after (Err stop) → ToldFor stop told → UnknownRow before after (Err told)
 told_unknown before after (Refused UnknownCommand) told row e = let P : Stop → Type 0 = λ s. UnknownRow before after (Err s) in subst P (sym e) row
 told_unknown before after (Refused (Value word)) told row e = absurd row
 told_unknown before after (Refused Order) told row e = absurd row
@@ -94,14 +110,63 @@ told_unknown before after (Refused (Record at fault)) told row e = absurd row
 told_unknown before after (Refused NoData) told row e = absurd row
 told_unknown before after (Refused (TooLarge bytes limit)) told row e = absurd row
 told_unknown before after (Refused InputTooLong) told row e = absurd row
+told_unknown before after (Refused NotEmpty) told row e = absurd row
 told_unknown before after ReadFault told row e = absurd row
+told_unknown before after DiskFault told row e = absurd row
 told_unknown before after WriteFault told row e = absurd row
 told_unknown before after OutOfMemory told row e = absurd row
 
-pub told_row : (command : Option Command) (before after : World) (stop told : Stop) → IsEnding command before after (Err stop) → ToldFor stop told → IsEnding command before after (Err told)
-told_row None before after stop told row e = told_unknown before after stop told row e
-told_row (Some (show shown)) before after stop told row e = told_show (text_shown shown) before after stop told row e
-told_row (Some (select w)) before after stop told row e = told_select w before after stop told row e
+told_init : {D : Type 0} (view : D → DiskView) (w : InitWords) (before after : World D) (stop told : Stop) → InitRow view w before after (Err stop) → ToldFor stop told → InitRow view w before after (Err told)
+told_init view w before after (Refused NotEmpty) told row e = let P : Stop → Type 0 = λ s. InitRow view w before after (Err s) in subst P (sym e) row
+told_init view w before after DiskFault told row e = let P : Stop → Type 0 = λ s. InitRow view w before after (Err s) in subst P (sym e) row
+told_init view w before after OutOfMemory told row e = let P : Stop → Type 0 = λ s. InitRow view w before after (Err s) in subst P (sym e) row
+told_init view w before after (Refused UnknownCommand) told row e = absurd row
+told_init view w before after (Refused (Value word)) told row e = absurd row
+told_init view w before after (Refused Order) told row e = absurd row
+told_init view w before after (Refused (Record at fault)) told row e = absurd row
+told_init view w before after (Refused NoData) told row e = absurd row
+told_init view w before after (Refused (TooLarge bytes limit)) told row e = absurd row
+told_init view w before after (Refused InputTooLong) told row e = absurd row
+told_init view w before after ReadFault told row e = absurd row
+told_init view w before after WriteFault told row e = absurd row
+
+pub told_row : {D : Type 0} (view : D → DiskView) (command : Option Command) (before after : World D) (stop told : Stop) → IsEnding view command before after (Err stop) → ToldFor stop told → IsEnding view command before after (Err told)
+told_row view None before after stop told row e = told_unknown before after stop told row e
+told_row view (Some (show shown)) before after stop told row e = (told_show (text_shown shown) before.streams after.streams stop told row.0 e, row.1)
+told_row view (Some (select w)) before after stop told row e = (told_select w before.streams after.streams stop told row.0 e, row.1)
+told_row view (Some (init w)) before after stop told row e = told_init view w before after stop told row e
+
+-- what a call of the disk founded, whatever is given beside it
+pub founded_as : {A B : Type 0} (e : Entry) (old new : DiskView) (a : A) (b : B) → MakesArchive e old new (Ok a) → MakesArchive e old new (Ok b)
+founded_as e old new a b run = record {
+  tells = run.tells;
+  later = run.later;
+  cause = λ failed. absurd (cc);
+  told = λ told. let made = run.told told in record { empty = made.empty; written = made.written; durable = made.durable; fault = made.fault; kept = λ len is. absurd (cc) };
+}
+
+pub same_fault : {A : Type 0} (fault other : FoundFault) (r : Result A FoundFault) → r ≡ Err fault → r ≡ Err other → fault ≡ other
+same_fault fault other r is also = cc
+
+pub refused_as : {A B : Type 0} (e : Entry) (old new : DiskView) (fault : FoundFault) → MakesArchive {T = A} e old new (Err fault) → MakesArchive {T = B} e old new (Err fault)
+refused_as e old new fault run = record {
+  tells = run.tells;
+  later = run.later;
+  cause = λ is. run.cause (ap Err (same_fault fault found.DiskFault _ refl is));
+  told = λ told. let made = run.told told in record {
+    empty = made.empty;
+    written = made.written;
+    durable = made.durable;
+    fault = made.fault;
+    kept = λ len is. made.kept len (ap Err (same_fault fault (found.NotEmpty len) _ refl is));
+  };
+}
+
+-- a founding that is refused is a row
+pub init_row : {D : Type 0} (view : D → DiskView) (w : InitWords) (before after : World D) (fault : FoundFault) → IsInit view w before after (Err fault) → InitRow view w before after (Err (stop_for_founding fault))
+init_row view w before after found.DiskFault is = is
+init_row view w before after (found.NotEmpty len) is = (len, is)
+init_row view w before after found.OutOfMemory is = is
 
 -- what an answer says of the body
 abbrev within : List ℕ → Bool → Result (List ℕ) DataRefusal
@@ -165,7 +230,7 @@ data_row query limit input held (TooMuch n) within asked e =
 data_row query limit input held NoMemory within asked e = tt
 
 -- the input was taken, and its answer is refused
-pub refused_row : (w : SelectWords) (query : DataQuery) (held : List Row) (refusal : DataRefusal) (before after : World) (stop : Stop) → stop ≡ stop_for_data w.limit refusal → IsSelectQuery w query
+pub refused_row : (w : SelectWords) (query : DataQuery) (held : List Row) (refusal : DataRefusal) (before after : Streams) (stop : Stop) → stop ≡ stop_for_data w.limit refusal → IsSelectQuery w query
     → HasTaken query before.source.left after.source.left held → after.sink ≡ before.sink → RefusesAs (answer_of all_seen query w.limit held) refusal → SelectRow w before after (Err stop)
 refused_row w query held refusal before after stop is asked taken kept why =
     let refused = data_row query w.limit taken.input held refusal taken.within taken.asked why in
@@ -173,7 +238,7 @@ refused_row w query held refusal before after stop is asked taken kept why =
     (subst (λ (s : Stop). StopsWith (RefusesInput query w.limit taken.input) s) (sym is) refused)
 
 -- the answer was written
-pub selected_row : (w : SelectWords) (query : DataQuery) (held : List Row) (body : List ℕ) (before after : World) → IsSelectQuery w query → HasTaken query before.source.left after.source.left held
+pub selected_row : (w : SelectWords) (query : DataQuery) (held : List Row) (body : List ℕ) (before after : Streams) → IsSelectQuery w query → HasTaken query before.source.left after.source.left held
     → answer_of all_seen query w.limit held ≡ Ok body → Grew before.sink.written after.sink.written body → SelectRow w before after (Ok tt)
 selected_row w query held body before after asked taken answer output = record {
   input = taken.input;
@@ -185,7 +250,7 @@ selected_row w query held body before after asked taken answer output = record {
 }
 
 -- or a first part of it
-pub cut_row : (w : SelectWords) (query : DataQuery) (held : List Row) (body : List ℕ) (before after : World) → IsSelectQuery w query → HasTaken query before.source.left after.source.left held
+pub cut_row : (w : SelectWords) (query : DataQuery) (held : List Row) (body : List ℕ) (before after : Streams) → IsSelectQuery w query → HasTaken query before.source.left after.source.left held
     → answer_of all_seen query w.limit held ≡ Ok body → Rose before.sink.faults after.sink.faults → WritesPart before.sink.written after.sink.written body → SelectRow w before after (Err WriteFault)
 cut_row w query held body before after asked taken answer rose part = record {
   input = taken.input;

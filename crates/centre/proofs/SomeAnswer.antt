@@ -27,9 +27,10 @@ use Rattle.query_parameters.proofs.ValuesFound.{Found, moment_found, list_found}
 use Rattle.centre.specs.declared.ending.Word.{Word}
 use Rattle.centre.specs.declared.ending.Word.TheVariants as word
 use Rattle.centre.specs.declared.ending.Refusal.{Refusal}
-use Rattle.centre.specs.declared.ending.Refusal.TheVariants.{UnknownCommand, Value, Order, Record, NoData, TooLarge, InputTooLong}
+use Rattle.centre.specs.declared.ending.Refusal.TheVariants.{UnknownCommand, Value, Order, Record, NoData, TooLarge, InputTooLong, NotEmpty}
 use Rattle.centre.specs.Answers.{IsSelectAnswer, IsAnswer, places_for, body_for, epoch}
-use Rattle.centre.specs.Commands.{Text, SelectWords, Command, select, show}
+use Rattle.centre.specs.Commands.{Text, SelectWords, Command, select, init, show}
+use Rattle.centre.specs.Given.{Given}
 use Rattle.centre.specs.Shown.{text_shown}
 use Rattle.centre.specs.Limits.{most_input}
 use Rattle.centre.specs.Words.{IsList, IsTime, IsLength, IsSelectQuery, CanReadWord, CanReadWords, tested_words}
@@ -185,7 +186,8 @@ some_select w input cut =
       | inr first ↦ (Err (Value first.0), inl first.1)
     ]
 
-pub some_answer : (command : Option Command) (input : List ℕ) → AreOctets input → (answer : Result (List ℕ) Refusal) × IsAnswer command input answer
-some_answer None input octets = (Err UnknownCommand, refl)
-some_answer (Some (show shown)) input octets = (Ok (text_shown shown), refl)
-some_answer (Some (select w)) input octets = some_select w input (cut_up input octets)
+pub some_answer : (command : Option Command) (given : Given) → AreOctets given.input → (answer : Result (List ℕ) Refusal) × IsAnswer command given answer
+some_answer None given octets = (Err UnknownCommand, refl)
+some_answer (Some (show shown)) given octets = (Ok (text_shown shown), refl)
+some_answer (Some (select w)) given octets = some_select w given.input (cut_up given.input octets)
+some_answer (Some (init w)) given octets = elim (empty_or_not given.file) [ inl none ↦ (Ok [], (none, refl)) | inr some ↦ (Err NotEmpty, some) ]

@@ -1,4 +1,4 @@
--- What the words and the input determine: the body that is written, or why there is none.
+-- What the words and what they make the program read determine: the body that is written, or why there is none.
 use Rattle.std.specs.Prelude.{◌≡◌, ◌≢◌, ◌⊎◌, ℕ, ◌<◌, ◌≤◌, Bool, true, pos, List, [], length, Option, Some, None, Result, Ok, Err}
 use Rattle.exact_time.specs.declared.moment.Moment.{Moment}
 use Rattle.mseed_header.specs.declared.header.RecordFault.{RecordFault}
@@ -9,7 +9,8 @@ use Rattle.dataselect.specs.Rows.{held_rows}
 use Rattle.dataselect.specs.DataBody.{data_body}
 use Rattle.dataselect.specs.Picked.{picked_places}
 use Rattle.centre.specs.Limits.{most_input}
-use Rattle.centre.specs.Commands.{SelectWords, Command, select, show}
+use Rattle.centre.specs.Commands.{SelectWords, Command, select, init, show}
+use Rattle.centre.specs.Given.{Given}
 use Rattle.centre.specs.Shown.{text_shown}
 use Rattle.centre.specs.Words.{IsSelectQuery, RefusesSelectWords}
 use Rattle.dataselect.specs.declared.answers.DataRefusal.{DataRefusal}
@@ -17,7 +18,7 @@ use Rattle.dataselect.specs.declared.answers.DataRefusal.TheVariants.{Empty, Too
 use Rattle.centre.specs.declared.ending.Stop.{Stop}
 use Rattle.centre.specs.declared.ending.Stop.TheVariants.{Refused, OutOfMemory}
 use Rattle.centre.specs.declared.ending.Refusal.{Refusal}
-use Rattle.centre.specs.declared.ending.Refusal.TheVariants.{UnknownCommand, Record, NoData, TooLarge, InputTooLong}
+use Rattle.centre.specs.declared.ending.Refusal.TheVariants.{UnknownCommand, Record, NoData, TooLarge, InputTooLong, NotEmpty}
 
 abbrev pub epoch : Moment
 epoch = record { micros = pos 0 }
@@ -86,8 +87,15 @@ IsSelectAnswer w input (Ok body) = (query : DataQuery) × IsSelectQuery w query 
 IsSelectAnswer w input (Err refusal) =
     RefusesSelectWords w refusal ⊎ ((query : DataQuery) × IsSelectQuery w query × RefusesInput query w.limit input refusal)
 
--- What the words and the input determine, by cases on the command: what is written, or why nothing is.
-abbrev pub IsAnswer : Option Command → List ℕ → Result (List ℕ) Refusal → Type 0
-IsAnswer None input answer = answer ≡ Err UnknownCommand
-IsAnswer (Some (show shown)) input answer = answer ≡ Ok (text_shown shown)
-IsAnswer (Some (select w)) input answer = IsSelectAnswer w input answer
+-- an archive is made in an empty file, and nothing is written on the sink
+abbrev pub IsInitAnswer : List ℕ → Result (List ℕ) Refusal → Type 0
+IsInitAnswer file (Ok body) = (file ≡ []) × (body ≡ [])
+IsInitAnswer file (Err NotEmpty) = file ≢ []
+IsInitAnswer file (Err _) = ⊥
+
+-- What the words and what is read determine, by cases on the command: what the sink gets, or why it gets nothing.
+abbrev pub IsAnswer : Option Command → Given → Result (List ℕ) Refusal → Type 0
+IsAnswer None given answer = answer ≡ Err UnknownCommand
+IsAnswer (Some (show shown)) given answer = answer ≡ Ok (text_shown shown)
+IsAnswer (Some (select w)) given answer = IsSelectAnswer w given.input answer
+IsAnswer (Some (init w)) given answer = IsInitAnswer given.file answer

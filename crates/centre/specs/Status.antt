@@ -6,9 +6,9 @@ use Rattle.mseed_header.specs.declared.header.RecordFault.TheVariants.{Short, Ye
 use Rattle.centre.specs.declared.ending.Word.{Word}
 use Rattle.centre.specs.declared.ending.Word.TheVariants.{Network, Station, Location, Channel, Start, End, Quality, Minimum, Longest}
 use Rattle.centre.specs.declared.ending.Refusal.{Refusal}
-use Rattle.centre.specs.declared.ending.Refusal.TheVariants.{UnknownCommand, Value, Order, Record, NoData, TooLarge, InputTooLong}
+use Rattle.centre.specs.declared.ending.Refusal.TheVariants.{UnknownCommand, Value, Order, Record, NoData, TooLarge, InputTooLong, NotEmpty}
 use Rattle.centre.specs.declared.ending.Stop.{Stop}
-use Rattle.centre.specs.declared.ending.Stop.TheVariants.{Refused, ReadFault, WriteFault, OutOfMemory}
+use Rattle.centre.specs.declared.ending.Stop.TheVariants.{Refused, ReadFault, WriteFault, DiskFault, OutOfMemory}
 
 abbrev pub status_of_refusal : Refusal → ℕ
 status_of_refusal UnknownCommand = 1
@@ -17,12 +17,14 @@ status_of_refusal Order = 2
 status_of_refusal (Record at fault) = 2
 status_of_refusal NoData = 3
 status_of_refusal (TooLarge bytes limit) = 4
+status_of_refusal NotEmpty = 9
 status_of_refusal InputTooLong = 10
 
 abbrev pub status_of : Stop → ℕ
 status_of (Refused refusal) = status_of_refusal refusal
 status_of ReadFault = 5
 status_of WriteFault = 6
+status_of DiskFault = 7
 status_of OutOfMemory = 70
 
 abbrev pub status_of_run : Result (Unit {0}) Stop → ℕ
@@ -59,12 +61,14 @@ text_of_refusal Order = codes "centre: query: Order\n"
 text_of_refusal (Record at fault) = codes "centre: record at offset " ++ decimal at ++ codes ": " ++ name_of_fault fault ++ codes "\n"
 text_of_refusal NoData = codes "centre: no data\n"
 text_of_refusal (TooLarge bytes limit) = codes "centre: " ++ decimal bytes ++ codes " bytes exceed " ++ decimal limit ++ codes "\n"
+text_of_refusal NotEmpty = codes "centre: journal is not empty\n"
 text_of_refusal InputTooLong = codes "centre: input too long\n"
 
 abbrev pub error_text_of : Stop → List ℕ
 error_text_of (Refused refusal) = text_of_refusal refusal
 error_text_of ReadFault = codes "centre: read fault\n"
 error_text_of WriteFault = codes "centre: write fault\n"
+error_text_of DiskFault = codes "centre: disk fault\n"
 error_text_of OutOfMemory = codes "centre: out of memory\n"
 
 abbrev pub text_of_run : Result (Unit {0}) Stop → List ℕ

@@ -1,32 +1,30 @@
 -- The table of endings: when each status comes, and what it leaves.
-use Rattle.std.specs.Prelude.{◌≡◌, ◌⊎◌, ℕ, List, Option, Some, None, Result, Ok, Err}
+use Rattle.std.specs.Prelude.{◌≡◌, ◌⊎◌, ℕ, List, Option, Some, None, Result, Ok, Err, IsErrOf}
 use Rattle.std.specs.Io.KnownBytes.{IsAtEnd}
 use Rattle.exact_time.specs.Causes.{Rose}
 use Rattle.dataselect.specs.declared.query.DataQuery.{DataQuery}
 use Rattle.centre.specs.declared.ending.Refusal.{Refusal}
-use Rattle.centre.specs.declared.ending.Refusal.TheVariants.{UnknownCommand, Record, TooLarge}
+use Rattle.centre.specs.declared.ending.Refusal.TheVariants.{UnknownCommand, Record, TooLarge, NotEmpty}
 use Rattle.centre.specs.declared.ending.Stop.{Stop}
-use Rattle.centre.specs.declared.ending.Stop.TheVariants.{Refused, ReadFault, WriteFault, OutOfMemory}
+use Rattle.centre.specs.declared.ending.Stop.TheVariants.{Refused, ReadFault, WriteFault, DiskFault, OutOfMemory}
 use Rattle.centre.specs.Answers.{RefusesInput, IsSelectAnswer}
-use Rattle.centre.specs.Commands.{SelectWords, Command, select, show}
+use Rattle.centre.specs.Commands.{SelectWords, InitWords, Command, select, init, show}
+use Rattle.centre.specs.Given.{Streams, World}
 use Rattle.centre.specs.Shown.{text_shown}
 use Rattle.centre.specs.Status.{status_of_run, text_of_run}
 use Rattle.streams.specs.Effects.{Grew, WritesPart}
 use Rattle.streams.specs.View.{StreamView}
 use Rattle.centre.specs.Had.{Had}
+use Rattle.disk_model.specs.View.{DiskView}
+use Rattle.archive_state.specs.Lawful.{founding_entry}
+use Rattle.archive_log.specs.Founding.{MakesArchive}
+use Rattle.archive_log.specs.declared.fault.FoundFault.{FoundFault}
+use Rattle.archive_log.specs.declared.fault.FoundFault.TheVariants as found
 use Rattle.centre.specs.Words.{IsSelectQuery, RefusesSelectWords}
-
--- what is told of the source and the sink at one moment
-pub record World : Type 0 where
-  pub source : StreamView
-  pub sink : StreamView
-
-abbrev pub world : StreamView → StreamView → World
-world source sink = record { source = source; sink = sink }
 
 -- Status 0 of `select`: the input was read to its end, and the sink got the body that the words and the
 -- input give.
-pub record IsSelected (w : SelectWords) (before after : World) : Type 0 where
+pub record IsSelected (w : SelectWords) (before after : Streams) : Type 0 where
   pub input : List ℕ
   pub body : List ℕ
   pub had : Had before.source.left input
@@ -35,12 +33,12 @@ pub record IsSelected (w : SelectWords) (before after : World) : Type 0 where
   pub output : Grew before.sink.written after.sink.written body
 
 -- the words are refused: nothing is read, and nothing is written
-pub record IsRefusedByWords (w : SelectWords) (before after : World) (refusal : Refusal) : Type 0 where
+pub record IsRefusedByWords (w : SelectWords) (before after : Streams) (refusal : Refusal) : Type 0 where
   pub why : RefusesSelectWords w refusal
   pub same : after ≡ before
 
 -- the input is refused: nothing is written
-pub record IsRefusedByInput (w : SelectWords) (before after : World) (refusal : Refusal) : Type 0 where
+pub record IsRefusedByInput (w : SelectWords) (before after : Streams) (refusal : Refusal) : Type 0 where
   pub input : List ℕ
   pub query : DataQuery
   pub had : Had before.source.left input
@@ -49,14 +47,14 @@ pub record IsRefusedByInput (w : SelectWords) (before after : World) (refusal : 
   pub kept : after.sink ≡ before.sink
 
 -- reading stopped at a fault of the source: nothing is written
-pub record IsReadStopped (w : SelectWords) (before after : World) : Type 0 where
+pub record IsReadStopped (w : SelectWords) (before after : Streams) : Type 0 where
   pub query : DataQuery
   pub asked : IsSelectQuery w query
   pub rose : Rose before.source.faults after.source.faults
   pub kept : after.sink ≡ before.sink
 
 -- writing stopped at a fault of the sink, after a first part of the body
-pub record IsWriteStopped (w : SelectWords) (before after : World) : Type 0 where
+pub record IsWriteStopped (w : SelectWords) (before after : Streams) : Type 0 where
   pub input : List ℕ
   pub body : List ℕ
   pub had : Had before.source.left input
@@ -65,41 +63,65 @@ pub record IsWriteStopped (w : SelectWords) (before after : World) : Type 0 wher
   pub output : WritesPart before.sink.written after.sink.written body
 
 -- the rows of `select`; want of memory is free, and leaves the sink as it was
-abbrev pub SelectRow : SelectWords → World → World → Result (Unit {0}) Stop → Type 0
+abbrev pub SelectRow : SelectWords → Streams → Streams → Result (Unit {0}) Stop → Type 0
 SelectRow w before after (Ok done) = IsSelected w before after
 SelectRow w before after (Err (Refused refusal)) =
     IsRefusedByWords w before after refusal ⊎ IsRefusedByInput w before after refusal
 SelectRow w before after (Err ReadFault) = IsReadStopped w before after
 SelectRow w before after (Err WriteFault) = IsWriteStopped w before after
+SelectRow w before after (Err DiskFault) = ⊥
 SelectRow w before after (Err OutOfMemory) = after.sink ≡ before.sink
 
 -- a text is shown: nothing is read, and the sink got the text
-pub record IsShown (text : List ℕ) (before after : World) : Type 0 where
+pub record IsShown (text : List ℕ) (before after : Streams) : Type 0 where
   pub unread : after.source ≡ before.source
   pub output : Grew before.sink.written after.sink.written text
 
 -- showing stopped at a fault of the sink, after a first part of the text
-pub record IsShowStopped (text : List ℕ) (before after : World) : Type 0 where
+pub record IsShowStopped (text : List ℕ) (before after : Streams) : Type 0 where
   pub unread : after.source ≡ before.source
   pub rose : Rose before.sink.faults after.sink.faults
   pub output : WritesPart before.sink.written after.sink.written text
 
 -- the rows of a command that shows a text
-abbrev pub ShowRow : List ℕ → World → World → Result (Unit {0}) Stop → Type 0
+abbrev pub ShowRow : List ℕ → Streams → Streams → Result (Unit {0}) Stop → Type 0
 ShowRow text before after (Ok done) = IsShown text before after
 ShowRow text before after (Err WriteFault) = IsShowStopped text before after
 ShowRow text before after (Err _) = ⊥
 
+-- What `init` does, with this outcome: neither the source nor the sink is called, and the disk founds the archive of
+-- this operator. Where memory runs out, the disk isn't called either.
+pub record IsInit {D : Type 0} (view : D → DiskView) (w : InitWords) (before after : World D) (outcome : Result (Unit {0}) FoundFault) : Type 0 where
+  pub streams : after.streams ≡ before.streams
+  pub disk : MakesArchive (founding_entry w.operator w.ha1) (view before.disk) (view after.disk) outcome
+  pub memory : IsErrOf outcome found.OutOfMemory → after.disk ≡ before.disk
+
+-- how a fault of founding stops a run
+abbrev pub stop_for_founding : FoundFault → Stop
+stop_for_founding found.DiskFault = DiskFault
+stop_for_founding (found.NotEmpty len) = Refused NotEmpty
+stop_for_founding found.OutOfMemory = OutOfMemory
+
+-- the rows of `init`
+abbrev pub InitRow : {D : Type 0} → (D → DiskView) → InitWords → World D → World D → Result (Unit {0}) Stop → Type 0
+InitRow view w before after (Ok done) = IsInit view w before after (Ok done)
+InitRow view w before after (Err (Refused NotEmpty)) = (len : ℕ) × IsInit view w before after (Err (found.NotEmpty len))
+InitRow view w before after (Err DiskFault) = IsInit view w before after (Err found.DiskFault)
+InitRow view w before after (Err OutOfMemory) = IsInit view w before after (Err found.OutOfMemory)
+InitRow view w before after (Err _) = ⊥
+
 -- the row of words that are no command: nothing is read, and nothing is written
-abbrev pub UnknownRow : World → World → Result (Unit {0}) Stop → Type 0
+abbrev pub UnknownRow : {D : Type 0} → World D → World D → Result (Unit {0}) Stop → Type 0
 UnknownRow before after (Err (Refused UnknownCommand)) = after ≡ before
 UnknownRow before after _ = ⊥
 
--- The table, by cases on the command: how a run ends, why, and what it leaves.
-abbrev pub IsEnding : Option Command → World → World → Result (Unit {0}) Stop → Type 0
-IsEnding None before after ending = UnknownRow before after ending
-IsEnding (Some (show shown)) before after ending = ShowRow (text_shown shown) before after ending
-IsEnding (Some (select w)) before after ending = SelectRow w before after ending
+-- The table, by cases on the command: how a run ends, why, and what it leaves. A command that uses no disk leaves it as
+-- it was.
+abbrev pub IsEnding : {D : Type 0} → (D → DiskView) → Option Command → World D → World D → Result (Unit {0}) Stop → Type 0
+IsEnding view None before after ending = UnknownRow before after ending
+IsEnding view (Some (show shown)) before after ending = ShowRow (text_shown shown) before.streams after.streams ending × (after.disk ≡ before.disk)
+IsEnding view (Some (select w)) before after ending = SelectRow w before.streams after.streams ending × (after.disk ≡ before.disk)
+IsEnding view (Some (init w)) before after ending = InitRow view w before after ending
 
 -- What a stop is told as: itself, or want of memory where a text with numbers can't be made.
 abbrev pub ToldFor : Stop → Stop → Type 0
@@ -113,8 +135,8 @@ pub record Tells (old new : StreamView) (text : List ℕ) : Type 0 where
   pub whole : Grew old.written new.written text ⊎ Rose old.faults new.faults
 
 -- a run from one moment to another with this status, and what it writes on the errors
-pub record IsRun (command : Option Command) (before after : World) (old new : StreamView) (status : ℕ) : Type 0 where
+pub record IsRun {D : Type 0} (view : D → DiskView) (command : Option Command) (before after : World D) (old new : StreamView) (status : ℕ) : Type 0 where
   pub ending : Result (Unit {0}) Stop
-  pub row : IsEnding command before after ending
+  pub row : IsEnding view command before after ending
   pub status_is : status ≡ status_of_run ending
   pub text : Tells old new (text_of_run ending)

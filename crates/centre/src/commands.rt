@@ -3,11 +3,12 @@ ghost use Rattle.std.specs.Prelude.{◌≡◌, ◌↔◌, map, string_bytes, cod
 ghost use Rattle.std.specs.List.{list_all};
 ghost use Rattle.std.specs.Option.{option_map};
 ghost use Rattle.query_parameters.specs.Gets.{text_or};
-ghost use Rattle.centre.specs.Commands.{is_position, is_option, are_options, value_of, limit_of, select_words_of, lone_command_of, shown_of, command_of};
-ghost use Rattle.centre.specs.Arguments.{words_at, command_at};
+ghost use Rattle.centre.specs.Commands.{is_position, is_option, are_options, value_of, limit_of, select_words_of, init_words_with, init_words_of, lone_command_of, shown_of, command_of};
+ghost use Rattle.centre.specs.Arguments.{words_at, init_words_at, command_at};
 
 use crate::MAX_BYTES;
 use crate::help::Shown;
+use epochs::{is_ha1, is_user_name};
 use query_parameters::read_whole;
 
 /// The words of `select` behind its name: its positions, and what its options say.
@@ -26,10 +27,29 @@ pub struct SelectArguments<'a> {
     pub limit: u64,
 }
 
+/// The words of `init` behind its name: what its options say.
+#[derive(Clone, Copy)]
+pub struct InitArguments<'a> {
+    /// The path of the journal.
+    pub journal: &'a str,
+    /// The user name of the operator.
+    pub operator: &'a str,
+    /// The operator's HA1: 32 hexadecimal digits in lower case.
+    pub ha1: &'a str,
+}
+
+/// A command that has options.
+#[derive(Clone, Copy, Debug, PartialEq, Eq)]
+pub enum CommandName {
+    Select,
+    Init,
+}
+
 /// What the program is asked to do, with the words for it.
 #[derive(Clone, Copy)]
 pub enum CommandWords<'a> {
     Select(SelectArguments<'a>),
+    Init(InitArguments<'a>),
     Show(Shown),
 }
 
@@ -58,10 +78,27 @@ fn are_positions(words: &[String]) -> bool
 }
 
 // Whether the word names an option of `select`.
-fn is_option(word: &str) -> bool
-    ensures { result ≡ is_option word.now }
+fn is_select_option(word: &str) -> bool
+    ensures { result ≡ is_option CommandName.Select word.now }
 {
     word == "--quality" || word == "--minimum" || word == "--longest" || word == "--max-bytes"
+}
+
+// Whether the word names an option of `init`.
+fn is_init_option(word: &str) -> bool
+    ensures { result ≡ is_option CommandName.Init word.now }
+{
+    word == "--journal" || word == "--operator" || word == "--ha1"
+}
+
+// Whether the word names an option of the command.
+fn is_option(command: CommandName, word: &str) -> bool
+    ensures { result ≡ is_option command word.now }
+{
+    match command {
+        CommandName::Select => is_select_option(word),
+        CommandName::Init => is_init_option(word),
+    }
 }
 
 // The value of an option among words in pairs, if it is given.
@@ -78,13 +115,13 @@ fn value_of<'a>(words: &'a [String], name: &str) -> Option<&'a str>
     None
 }
 
-// Whether the words are options with their values, none of them twice.
-fn are_options(words: &[String]) -> bool
-    ensures { result ≡ are_options (map string_bytes words.entry.now) }
+// Whether the words are options of the command with their values, none of them twice.
+fn are_options(command: CommandName, words: &[String]) -> bool
+    ensures { result ≡ are_options command (map string_bytes words.entry.now) }
 {
     let mut rest = words;
     'pairs: while let [name, _, behind @ ..] = rest {
-        if !is_option(name.as_str()) || value_of(behind, name.as_str()).is_some() {
+        if !is_option(command, name.as_str()) || value_of(behind, name.as_str()).is_some() {
             return false;
         }
         rest = behind;
@@ -132,7 +169,8 @@ fn arguments_in(words: &[String]) -> Option<SelectArguments<'_>>
     else {
         return None;
     };
-    if !is_select(command.as_str()) || !are_positions(&words[1..7]) || !are_options(options) {
+    if !is_select(command.as_str()) || !are_positions(&words[1..7]) || !are_options(CommandName::Select, options)
+    {
         return None;
     }
     let limit = limit_of(value_of(options, "--max-bytes"))?;
@@ -148,6 +186,46 @@ fn arguments_in(words: &[String]) -> Option<SelectArguments<'_>>
         longest: value_or(options, "--longest", "false"),
         limit,
     })
+}
+
+// What the three values of `init` say, if all are given, and are a user name and an HA1.
+fn init_with<'a>(
+    journal: Option<&'a str>,
+    operator: Option<&'a str>,
+    ha1: Option<&'a str>,
+) -> Option<InitArguments<'a>>
+    ensures { option_map init_words_at result
+        ≡ init_words_with (option_map (λ s. s.now) journal.entry) (option_map (λ s. s.now) operator.entry) (option_map (λ s. s.now) ha1.entry) }
+{
+    let journal = journal?;
+    let operator = operator?;
+    let ha1 = ha1?;
+    if is_user_name(operator.as_bytes()) && is_ha1(ha1.as_bytes()) {
+        Some(InitArguments {
+            journal,
+            operator,
+            ha1,
+        })
+    } else {
+        None
+    }
+}
+
+// The words behind the name of `init`: its options, all of them.
+fn init_in(words: &[String]) -> Option<InitArguments<'_>>
+    ensures { option_map init_words_at result ≡ init_words_of (map string_bytes words.entry.now) }
+{
+    let [command, options @ ..] = words else {
+        return None;
+    };
+    if command.as_str() != "init" || !are_options(CommandName::Init, options) {
+        return None;
+    }
+    init_with(
+        value_of(options, "--journal"),
+        value_of(options, "--operator"),
+        value_of(options, "--ha1"),
+    )
 }
 
 // The command that a word is by itself.
@@ -170,11 +248,14 @@ fn shown_of<'a>(name: &str, word: &str) -> Option<CommandWords<'a>>
     if name == "select" && word == "--help" {
         return Some(CommandWords::Show(Shown::SelectHelp));
     }
+    if name == "init" && word == "--help" {
+        return Some(CommandWords::Show(Shown::InitHelp));
+    }
     None
 }
 
 /// The command that the words give: `--help` or `--version` alone, `--help` behind the name of a command, or
-/// `select` with its positions and options.
+/// `select` with its positions and options, or `init` with its options.
 pub fn command_in(words: &[String]) -> Option<CommandWords<'_>>
     ensures { option_map command_at result ≡ command_of (map string_bytes words.entry.now) }
 {
@@ -184,8 +265,11 @@ pub fn command_in(words: &[String]) -> Option<CommandWords<'_>>
     if let [name, word] = words {
         return shown_of(name.as_str(), word.as_str());
     }
-    match arguments_in(words) {
-        Some(arguments) => Some(CommandWords::Select(arguments)),
+    if let Some(arguments) = arguments_in(words) {
+        return Some(CommandWords::Select(arguments));
+    }
+    match init_in(words) {
+        Some(arguments) => Some(CommandWords::Init(arguments)),
         None => None,
     }
 }

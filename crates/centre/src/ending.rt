@@ -16,7 +16,7 @@ pub enum Word {
     Longest,
 }
 
-/// Why the words and the input give no answer: they determine it.
+/// Why the words and what they make the program read give no answer: these determine it.
 #[derive(Clone, Copy, Debug, PartialEq, Eq)]
 pub enum Refusal {
     /// The words are no command.
@@ -31,6 +31,8 @@ pub enum Refusal {
     NoData,
     /// The answer has more bytes than the limit.
     TooLarge { bytes: u64, limit: u64 },
+    /// The file of a journal that is to be made has bytes.
+    NotEmpty,
     /// The input has more than [`crate::MAX_INPUT`] bytes.
     InputTooLong,
 }
@@ -43,6 +45,8 @@ pub enum Stop {
     ReadFault,
     /// The sink failed.
     WriteFault,
+    /// The disk failed.
+    DiskFault,
     OutOfMemory,
 }
 
@@ -59,6 +63,7 @@ impl Refusal {
             Refusal::Value(_) | Refusal::Order | Refusal::Record { .. } => 2,
             Refusal::NoData => 3,
             Refusal::TooLarge { .. } => 4,
+            Refusal::NotEmpty => 9,
             Refusal::InputTooLong => 10,
         }
     }
@@ -76,6 +81,7 @@ impl Stop {
             Stop::Refused(refusal) => refusal.status(),
             Stop::ReadFault => 5,
             Stop::WriteFault => 6,
+            Stop::DiskFault => 7,
             Stop::OutOfMemory => 70,
         }
     }

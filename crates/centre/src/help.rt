@@ -10,6 +10,8 @@ pub enum Shown {
     Version,
     /// By `select --help`.
     SelectHelp,
+    /// By `init --help`.
+    InitHelp,
 }
 
 impl Shown {
@@ -23,6 +25,7 @@ impl Shown {
             Shown::Help => HELP,
             Shown::Version => VERSION,
             Shown::SelectHelp => SELECT_HELP,
+            Shown::InitHelp => INIT_HELP,
         }
     }
 }
@@ -32,17 +35,22 @@ pub const VERSION: &str = "centre 0.1.0\n";
 
 /// What `--help` shows: the commands, and the statuses.
 pub const HELP: &str = "\
-Velkatsa: waveform records by channel and time.
+Velkatsa: waveform records by channel and time, and an archive of them.
 
 Usage:
   velkatsa select NET STA LOC CHA START END [OPTIONS] < RECORDS > CHOSEN
   velkatsa select --help
+  velkatsa init --journal F --operator NAME --ha1 HEX
+  velkatsa init --help
   velkatsa --help
   velkatsa --version
 
 select writes those of the miniSEED 2 records on standard input that are asked
 for, whole and in order, to standard output. `velkatsa select --help` says how
 its words are read, with an example.
+
+init makes the journal of a new archive in a file. `velkatsa init --help` says
+what its words are, with an example.
 
 The program is called velkatsa, and its messages begin with centre:.
 
@@ -56,8 +64,38 @@ Exit status, and the text on standard error:
    4  centre: 512 bytes exceed 511
    5  centre: read fault
    6  centre: write fault
+   7  centre: disk fault
+   9  centre: journal is not empty
   10  centre: input too long
   70  centre: out of memory
+";
+
+/// What `init --help` shows: the words of that command.
+pub const INIT_HELP: &str = "\
+Usage:
+  velkatsa init --journal F --operator NAME --ha1 HEX
+
+Makes the journal of a new archive in the file F, which is made where there is
+none, and else has to be empty. The journal has one entry, which makes NAME a
+user with the role operator.
+
+  --journal F      the path of the file
+  --operator NAME  1 to 32 letters, digits and the characters _ - .
+  --ha1 HEX        32 hexadecimal digits in lower case: the MD5 of
+                   NAME:FDSN:PASSWORD. The archive keeps this and never the
+                   password
+
+While the command runs, other users of the machine can see its words, and who
+knows an HA1 can ask as that user. On a machine that others use, run it where
+they can't see it.
+
+After status 0 the archive is on the disk. After centre: disk fault (no such
+folder, no right to write, a full disk) remove what there is of the file, and
+run it again.
+
+An example:
+  ./velkatsa init --journal archive.journal --operator op \\
+      --ha1 \"$(printf 'op:FDSN:password' | md5sum | cut -c 1-32)\"
 ";
 
 /// What `select --help` shows: the words of that command.

@@ -1,12 +1,13 @@
 //! The program's commands over objects of the outside.
 //!
 //! What the program uses: [`run`] does what the words ask for. Its contract says that what the words and
-//! the input determine (`specs/Answers.antt`) is what comes: with status 0 the sink got the data body of
-//! the input's records for the query of the words, nothing more and nothing less, and each other status
-//! comes where its cause holds (`specs/Settled.antt`), and leaves what the table says
-//! (`specs/Table.antt`).
+//! what they make it read determine (`specs/Answers.antt`) is what comes: with status 0 of `select` the sink got
+//! the data body of the input's records for the query of the words, nothing more and nothing less; with status 0 of
+//! `init` the disk reads as the journal with the founding entry alone, and so does every file that a crash may leave;
+//! and each other status comes where its cause holds (`specs/Settled.antt`), and leaves what the table says
+//! (`specs/Table.antt`). [`outside_of`] says which file the words name.
 //!
-//! [`Source`] and [`Sink`], which are those of `streams`, are what it needs of the outside.
+//! [`Source`] and [`Sink`], which are those of `streams`, and `Disk` of `disk_model` are what it needs of the outside.
 //! [`MemorySource`] and [`MemorySink`] are such objects in memory, [`StdSource`] and [`StdSink`] adapters
 //! over std's readers and writers.
 #![tactic(auto)]
@@ -17,6 +18,7 @@ mod ending;
 mod help;
 mod intake;
 mod law;
+mod outside;
 mod running;
 mod telling;
 #[cfg(test)]
@@ -25,9 +27,10 @@ mod words;
 
 pub use adapters::{StdSink, StdSource};
 pub use ending::{Refusal, Stop, Word};
-pub use help::{HELP, SELECT_HELP, Shown, VERSION};
+pub use help::{HELP, INIT_HELP, SELECT_HELP, Shown, VERSION};
 pub use law::{one_answer_at_most, options_are_named_values, some_answer};
-pub use running::run;
+pub use outside::{Outside, outside_of};
+pub use running::{Ended, run};
 pub use streams::{MemorySink, MemorySource, Sink, Source, Stream};
 pub use telling::out_of_memory;
 

@@ -105,6 +105,7 @@ fn tell_refusal<E: Sink>(alloc: Global, errors: &mut E, refusal: Refusal) -> Sto
         Refusal::TooLarge { bytes, limit } => {
             return tell_made(errors, refusal, size_text(alloc, bytes, limit));
         }
+        Refusal::NotEmpty => tell(errors, "centre: journal is not empty\n"),
         Refusal::InputTooLong => tell(errors, "centre: input too long\n"),
     }
     Stop::Refused(refusal)
@@ -120,6 +121,7 @@ pub fn tell_stop<E: Sink>(alloc: Global, errors: &mut E, stop: Stop) -> Stop
         Stop::Refused(refusal) => return tell_refusal(alloc, errors, refusal),
         Stop::ReadFault => tell(errors, "centre: read fault\n"),
         Stop::WriteFault => tell(errors, "centre: write fault\n"),
+        Stop::DiskFault => tell(errors, "centre: disk fault\n"),
         Stop::OutOfMemory => tell(errors, MEMORY_TEXT),
     }
     stop

@@ -1,5 +1,6 @@
 //! Tests over records, which the crates below share.
 mod headers;
+mod inits;
 mod long;
 mod options;
 mod records;

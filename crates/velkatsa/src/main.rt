@@ -1,10 +1,13 @@
-//! The program: its words, standard input, output and error, and [`centre::run`] over them.
+//! The program: its words, standard input, output and error, the archive's file, and [`centre::run`] over them.
 //!
-//! What those streams give and take is not proved, since a real stream tells nothing.
+//! What those streams and that file give and take is not proved, since a real one tells nothing.
 #![tactic(auto)]
 
-use centre::{StdSink, StdSource, out_of_memory, run};
+use centre::{StdSink, StdSource, out_of_memory, outside_of, run};
+use disk_model::FileDisk;
+use exact_time::OutOfMemory;
 use std::alloc::Global;
+use std::fs::Files;
 use std::process::ExitCode;
 use std::rt::Env;
 use std::{env, io};
@@ -16,6 +19,20 @@ fn words_after(rt: &(impl Env + AllocGlobal), alloc: Global) -> io::Result<Vec<S
         words.remove(0);
     }
     Ok(words)
+}
+
+// The archive's file, if the words name one. It is opened at the first call.
+fn disk_for<R: Files + Drop>(
+    files: R,
+    alloc: Global,
+    words: &[String],
+) -> Result<FileDisk<R>, OutOfMemory> {
+    let outside = outside_of(alloc, words)?;
+    let path = match &outside.journal {
+        Some(path) => Some(String::from_str(alloc, path.as_str())?),
+        None => None,
+    };
+    Ok(FileDisk::new(files, path, outside.may_make))
 }
 
 fn main(rt: HostRuntime) -> ExitCode {
@@ -31,5 +48,9 @@ fn main(rt: HostRuntime) -> ExitCode {
         // A word that is no text makes no command, as no words make none.
         Err(_) => Vec::new(alloc),
     };
-    ExitCode::from(run(&rt, alloc, &words, &mut source, &mut sink, &mut errors))
+    let Ok(disk) = disk_for(&rt, alloc, &words) else {
+        return ExitCode::from(out_of_memory(&mut errors));
+    };
+    let ended = run(&rt, alloc, &words, &mut source, &mut sink, &mut errors, disk);
+    ExitCode::from(ended.status)
 }

@@ -1,6 +1,7 @@
 //! Inputs as long as may be, and one byte longer.
 ghost use Rattle.std.specs.Prelude.{None};
 
+use super::runs::empty_disk;
 use crate::{MemorySink, Source, Stream, run};
 use exact_time::{Failed, Many};
 use std::alloc::Global;
@@ -44,8 +45,9 @@ fn takes_64_mebibytes_at_most(rt: HostRuntime) -> Result<(), Fail> {
         let mut source = Zeros { left: size };
         let mut sink = MemorySink::new(alloc, Many::new(alloc));
         let mut errors = MemorySink::new(alloc, Many::new(alloc));
-        let status = run(&rt, alloc, &words, &mut source, &mut sink, &mut errors);
-        assert_eq!(rt; status, wanted);
+        let disk = empty_disk(alloc)?;
+        let ended = run(&rt, alloc, &words, &mut source, &mut sink, &mut errors, disk);
+        assert_eq!(rt; ended.status, wanted);
         assert_eq!(rt; errors.told().ok_or("lost")?, text.as_bytes());
     }
     Ok(())

@@ -3,7 +3,8 @@ use super::records::{
     anmo_record, anmo_record_at, changed, little_endian_record, three_hertz_record,
 };
 use crate::{HELP, MemorySink, MemorySource, SELECT_HELP, StdSink, StdSource, run};
-use exact_time::{Bytes, Many};
+use disk_model::MemoryDisk;
+use exact_time::{Bytes, Many, OutOfMemory};
 use std::alloc::Global;
 use std::process::Abort;
 use std::test::Fail;
@@ -17,7 +18,7 @@ struct Faults {
 
 const NO_FAULTS: Faults = Faults { source: 0, sink: 0 };
 
-fn owned_words(alloc: Global, words: &[&str]) -> Result<Vec<String>, Fail> {
+pub fn owned_words(alloc: Global, words: &[&str]) -> Result<Vec<String>, Fail> {
     let mut owned = Vec::new(alloc);
     for word in words {
         owned.push(String::from_str(alloc, word)?)?;
@@ -42,6 +43,11 @@ fn one_call(alloc: Global, call: u64) -> Result<Many<u64>, Fail> {
     Ok(calls)
 }
 
+/// A disk with an empty file.
+pub fn empty_disk(alloc: Global) -> Result<MemoryDisk, OutOfMemory> {
+    MemoryDisk::new(alloc, Bytes::new(alloc), Many::new(alloc))
+}
+
 // Runs the words over the input, and compares the status, the output and the text on the errors.
 fn check_with(
     rt: &(impl Abort + AllocGlobal),
@@ -57,8 +63,9 @@ fn check_with(
     let mut source = MemorySource::new(pieces(alloc, input)?, one_call(alloc, faults.source)?);
     let mut sink = MemorySink::new(alloc, one_call(alloc, faults.sink)?);
     let mut errors = MemorySink::new(alloc, Many::new(alloc));
-    let ended = run(rt, alloc, &words, &mut source, &mut sink, &mut errors);
-    assert_eq!(rt; ended, status);
+    let disk = empty_disk(alloc)?;
+    let ended = run(rt, alloc, &words, &mut source, &mut sink, &mut errors, disk);
+    assert_eq!(rt; ended.status, status);
     assert_eq!(rt; sink.told().ok_or("lost")?, output);
     assert_eq!(rt; errors.told().ok_or("lost")?, text.as_bytes());
     Ok(())
@@ -325,8 +332,9 @@ fn check_sink(
     let words = owned_words(alloc, &USUAL)?;
     let mut source = MemorySource::new(pieces(alloc, record)?, Many::new(alloc));
     let mut errors = MemorySink::new(alloc, Many::new(alloc));
-    let ended = run(rt, alloc, &words, &mut source, &mut sink, &mut errors);
-    assert_eq!(rt; ended, status);
+    let disk = empty_disk(alloc)?;
+    let ended = run(rt, alloc, &words, &mut source, &mut sink, &mut errors, disk);
+    assert_eq!(rt; ended.status, status);
     assert_eq!(rt; sink.told().ok_or("lost")?, output);
     Ok(())
 }
@@ -351,8 +359,9 @@ fn runs_from_a_reader_to_a_writer(rt: HostRuntime) -> Result<(), Fail> {
     let mut source = StdSource::new(record.as_slice());
     let mut sink = StdSink::telling(&mut output);
     let mut errors = MemorySink::new(alloc, Many::new(alloc));
-    let status = run(&rt, alloc, &words, &mut source, &mut sink, &mut errors);
-    assert_eq!(rt; status, 0);
+    let disk = empty_disk(alloc)?;
+    let ended = run(&rt, alloc, &words, &mut source, &mut sink, &mut errors, disk);
+    assert_eq!(rt; ended.status, 0);
     drop(sink);
     assert_eq!(rt; output.as_slice(), record.as_slice());
     Ok(())

@@ -3,6 +3,7 @@ use Rattle.std.specs.Prelude.{string_bytes}
 use Rattle.std.proofs.lemmas.List.{length-map}
 use Rattle.query_parameters.specs.Gets.{text_or}
 use Rattle.centre.specs.Arguments.{words_at}
+use Rattle.centre.specs.declared.commands.CommandName.TheVariants.{Select}
 use Rattle.centre.specs.Commands.{Text, are_options, value_of, limit_of}
 use Rattle.centre.proofs.Arguments.{few_words, text_at, positions_test, options_behind, are_words, same_words, other_words, another, position, option}
 use Rattle.centre.proofs.commands.arguments_in.Goals.{then-not-is_select-via-then-not-is_select, then-not-is_select-via-else-not-is_select+then-not-are_positions, then-not-is_select-via-else-not-is_select+else-not-are_positions+then-not-are_options}
@@ -22,7 +23,7 @@ returns-then-not-is_select c =
       | then-not-is_select-via-else-not-is_select+then-not-are_positions w ↦
           position (positions_test words ∙ sym w.are_positions.ensures ∙ w.if-not-are_positions.true)
       | then-not-is_select-via-else-not-is_select+else-not-are_positions+then-not-are_options w ↦
-          option (ap (λ (ts : List Text). are_options ts) (options_behind words) ∙ sym w.are_options.ensures ∙ w.if-not-are_options.true)
+          option (ap (λ (ts : List Text). are_options Select ts) (options_behind words) ∙ sym w.are_options.ensures ∙ w.if-not-are_options.true)
     ])
 
 pub returns : goal.returns
@@ -35,7 +36,7 @@ returns c =
     sym (text_at words 0 c.command-item.result c.as_str.result.now (omega (arith, few)) c.command-item.is c.as_str.ensures.value) ∙ c.if-not-is_select.ensures.0 refl in
     let are = are_words ts (omega (arith, length-map words string_bytes, few)) command
     (positions_test words ∙ sym c.are_positions.ensures ∙ c.if-not-are_positions.false)
-    (ap (λ (ts : List Text). are_options ts) (options_behind words) ∙ sym c.are_options.ensures ∙ c.if-not-are_options.false) in
+    (ap (λ (ts : List Text). are_options Select ts) (options_behind words) ∙ sym c.are_options.ensures ∙ c.if-not-are_options.false) in
     let quality : c.value_or.result.now ≡ text_or (codes "B") (value_of (codes "--quality") (drop 7 ts)) =
     c.value_or.ensures ∙ ap (λ (ts : List Text). text_or (codes "B") (value_of (codes "--quality") ts)) behind in
     let minimum : c.value_or-2.result.now ≡ text_or (codes "0") (value_of (codes "--minimum") (drop 7 ts)) =

@@ -23,3 +23,8 @@ pub returns-in-InputTooLong-clause-text : goal.returns-in-InputTooLong-clause-te
 returns-in-InputTooLong-clause-text g c =
     let P : Refusal → Type 0 = λ refusal. Tells (g.E.Stream.view c.args.errors.now) (g.E.Stream.view c.tell-in-InputTooLong.new.errors) (text_of_refusal refusal) in
     subst P (sym c.in-InputTooLong.is) c.tell-in-InputTooLong.ensures
+
+pub returns-in-NotEmpty-clause-text : goal.returns-in-NotEmpty-clause-text
+returns-in-NotEmpty-clause-text g c =
+    let P : Refusal → Type 0 = λ refusal. Tells (g.E.Stream.view c.args.errors.now) (g.E.Stream.view c.tell-in-NotEmpty.new.errors) (text_of_refusal refusal) in
+    subst P (sym c.in-NotEmpty.is) c.tell-in-NotEmpty.ensures
