@@ -38,7 +38,7 @@ lines_total =
     (then_total (on_total (λ (l : Line). l.updated.micros) int_cmp_total)
     (then_total (on_total (λ (l : Line). l.spans) nat_cmp_total) (on_total (λ (l : Line). l.restricted) bool_cmp_total))))))))
 
-exact_options : {K : Type 0} (cmp : K → K → Ordering) → CmpEqualImpliesEq cmp → CmpEqualImpliesEq (option_cmp cmp)
+pub exact_options : {K : Type 0} (cmp : K → K → Ordering) → CmpEqualImpliesEq cmp → CmpEqualImpliesEq (option_cmp cmp)
 exact_options cmp exact None None h = refl
 exact_options cmp exact None (Some y) h = let e : Less ≡ Equal = h in cc
 exact_options cmp exact (Some x) None h = let e : Greater ≡ Equal = h in cc

@@ -1,3 +1,4 @@
+pub mod Channels
 pub mod Fields
 pub mod Lines
 pub mod Ranks

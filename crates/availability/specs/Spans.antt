@@ -33,9 +33,13 @@ has_quality set R = set.r
 abbrev pub is_matched : List Selection → Nslc → Bool
 is_matched selections name = list_any (λ s. is_named s name) selections
 
+-- the row is seen, and has a quality that is asked for
+abbrev pub passes : (Row → Bool) → AvailQuery → Row → Bool
+passes seen q row = seen row && has_quality q.qualities row.header.quality
+
 -- the row is seen, and its name and quality are asked for
 abbrev pub is_asked : (Row → Bool) → AvailQuery → Row → Bool
-is_asked seen q row = is_matched q.selections row.header.name && (seen row && has_quality q.qualities row.header.quality)
+is_asked seen q row = is_matched q.selections row.header.name && passes seen q row
 
 abbrev pub group_of : AvailQuery → Header → Group
 group_of q h = record {

@@ -30,12 +30,14 @@ earlier_of a b = record { micros = int_min a.micros b.micros }
 abbrev pub later_of : Moment → Moment → Moment
 later_of a b = record { micros = int_max a.micros b.micros }
 
--- the selection matches the codes, and the span meets its window: it starts at the end or before, and its
--- last sample is at the start or after
+-- the span meets the selection's window: it starts at the end or before, and its last sample is at the start or
+-- after
+abbrev pub meets : Selection → TimeSpan → Bool
+meets s span = holds (λ t. int_le t.micros span.last.micros) s.start && holds (λ t. int_le span.start.micros t.micros) s.end
+
+-- the selection matches the codes, and the span meets its window
 abbrev pub is_kept : Selection → TimeSpan → Bool
-is_kept s span =
-    is_named s span.group.name
-    && (holds (λ t. int_le t.micros span.last.micros) s.start && holds (λ t. int_le span.start.micros t.micros) s.end)
+is_kept s span = is_named s span.group.name && meets s span
 
 -- a moment, or a window's limit where that is later, or earlier
 abbrev pub from_limit : Option Moment → Moment → Moment
@@ -56,6 +58,10 @@ clipped s span = record {
   spans = 1;
   restricted = span.restricted;
 }
+
+-- what the selection's window keeps of spans, whatever their names are
+abbrev pub kept_within : Selection → List TimeSpan → List Window
+kept_within s spans = map (clipped s) (filter (meets s) spans)
 
 -- what the selection keeps, span by span
 abbrev pub kept : Selection → List TimeSpan → List Window

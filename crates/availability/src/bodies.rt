@@ -5,29 +5,12 @@ ghost use Rattle.query_words.specs.declared.avail.AvailMethod.TheVariants.{Spans
 ghost use Rattle.availability.specs.Spans.{spans_of};
 ghost use Rattle.availability.specs.Texts.{answer_of};
 
-use crate::rows::rows_asked;
-use crate::span::TimeSpan;
-use crate::spans::add_spans_of;
+use crate::channels::channels;
 use crate::texts::body;
 use dataselect::{Shelf, Sight};
-use exact_time::{Many, OutOfMemory, Text, TextRefusal};
+use exact_time::{Text, TextRefusal};
 use query_words::{AvailMethod, AvailQuery};
 use std::alloc::Global;
-
-// The spans of the rows that are asked for.
-fn spans<S: Shelf, V: Sight>(
-    alloc: Global,
-    shelf: &S,
-    sight: &V,
-    query: &AvailQuery,
-) -> Result<Many<TimeSpan>, OutOfMemory>
-    ensures { IfOk result (λ spans. spans ≡ spans_of (V.seen sight.now) (V.touched sight.now) query.now (S.rows shelf.now)) }
-{
-    let rows = rows_asked(alloc, shelf, sight, query)?;
-    let mut spans = Many::new(alloc);
-    add_spans_of(&mut spans, sight, query, rows.as_slice())?;
-    Ok(spans)
-}
 
 /// The time spans that are asked for (fdsnws-availability 1.0, query), in text or as selection lines: spans of
 /// the rows that are seen and have a quality that is asked for, kept and clipped by each selection, in the
@@ -43,12 +26,12 @@ pub fn spans_body<S: Shelf, V: Sight>(
     ensures text { IfOk result (λ text. answer_of Spans query.now max_lines (spans_of (V.seen sight.now) (V.touched sight.now) query.now (S.rows shelf.now)) ≡ Ok text) }
     ensures refused { IfErr result (RefusesTextAs (answer_of Spans query.now max_lines (spans_of (V.seen sight.now) (V.touched sight.now) query.now (S.rows shelf.now)))) }
 {
-    let spans = spans(alloc, shelf, sight, query)?;
+    let channels = channels(alloc, shelf, sight, query)?;
     body(
         alloc,
         AvailMethod::Spans,
         query,
-        spans.as_slice(),
+        channels.as_slice(),
         max_lines,
     )
 }
@@ -65,12 +48,12 @@ pub fn extent_body<S: Shelf, V: Sight>(
     ensures text { IfOk result (λ text. answer_of Extent query.now max_lines (spans_of (V.seen sight.now) (V.touched sight.now) query.now (S.rows shelf.now)) ≡ Ok text) }
     ensures refused { IfErr result (RefusesTextAs (answer_of Extent query.now max_lines (spans_of (V.seen sight.now) (V.touched sight.now) query.now (S.rows shelf.now)))) }
 {
-    let spans = spans(alloc, shelf, sight, query)?;
+    let channels = channels(alloc, shelf, sight, query)?;
     body(
         alloc,
         AvailMethod::Extent,
         query,
-        spans.as_slice(),
+        channels.as_slice(),
         max_lines,
     )
 }

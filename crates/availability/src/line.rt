@@ -1,9 +1,11 @@
 //! The lines of an answer, in their order.
 ghost use Rattle.std.specs.Prelude.{◌≡◌, map, IfOk, OnOk};
 ghost use Rattle.list_laws.specs.InOrder.{in_order};
+ghost use Rattle.availability.specs.Channels.{AreNamed, all_spans};
 ghost use Rattle.availability.specs.Lines.{first_of, line_of, line_cmp, lines_of};
 
-use crate::span::{TimeSpan, Window};
+use crate::channel::ChannelSpans;
+use crate::span::Window;
 use crate::window::windows;
 use channel_globs::Nslc;
 use exact_time::{Moment, OutOfMemory, Ratio};
@@ -77,13 +79,14 @@ pub fn lines(
     alloc: Global,
     method: AvailMethod,
     query: &AvailQuery,
-    spans: &[TimeSpan],
+    channels: &[ChannelSpans],
 ) -> Result<BTreeSet<Line>, OutOfMemory>
-    ensures { IfOk result (λ lines. lines.keys ≡ lines_of method query.now spans.now) }
+    requires { AreNamed channels.now }
+    ensures { IfOk result (λ lines. lines.keys ≡ lines_of method query.now (all_spans channels.now)) }
 {
     let mut lines = BTreeSet::new(alloc);
     'selections: for selection in query.selections.as_slice() {
-        let windows = windows(alloc, method, selection, spans)?;
+        let windows = windows(alloc, method, selection, channels)?;
         put_lines(&mut lines, query.order, windows.as_slice())?;
     }
     Ok(lines)

@@ -1,13 +1,15 @@
-//! The rows that are asked for, in order.
-ghost use Rattle.std.specs.Prelude.{◌≡◌, ◌++◌, map, IfOk, OnOk};
+//! The rows of a channel that are asked for, in order.
+ghost use Rattle.std.specs.Prelude.{◌≡◌, ◌++◌, [], map, IfOk, OnOk};
 ghost use Rattle.std.specs.List.{slice_get};
+ghost use Rattle.list_laws.specs.InOrder.{in_order};
 ghost use Rattle.dataselect.specs.SpanOrder.{row_or_none};
 ghost use Rattle.dataselect.specs.Spans.{rows_in_order};
-ghost use Rattle.availability.specs.Ranks.{ranks_of, rows_ranked};
-ghost use Rattle.availability.specs.Spans.{merging_of, has_quality, is_asked};
+ghost use Rattle.availability.specs.Channels.{is_asked_of};
+ghost use Rattle.availability.specs.Ranks.{rank_cmp, rank_if, ranks_at, rows_ranked};
+ghost use Rattle.availability.specs.Spans.{merging_of, has_quality, passes};
 
-use crate::matched::Matched;
 use crate::rank::{Rank, rank_of};
+use channel_globs::Nslc;
 use dataselect::{Shelf, Sight};
 use exact_time::{Many, OutOfMemory};
 use mseed_header::{Quality, Row};
@@ -27,37 +29,46 @@ fn has_quality(set: QualitySet, quality: Quality) -> bool
     }
 }
 
-// Whether the row is seen, and its name and quality are asked for.
-fn is_asked<V: Sight>(
-    matched: &mut Matched,
-    sight: &V,
-    query: &AvailQuery,
-    row: &Row,
-) -> Result<bool, OutOfMemory>
-    requires { matched.old.selections.now ≡ query.now.selections }
-    ensures asked { IfOk result (λ asked. asked ≡ is_asked (V.seen sight.now) query.now row.now) }
-    ensures selections { matched.new.selections.now ≡ matched.old.selections.now }
+// Whether the row is seen, and has a quality that is asked for.
+fn passes<V: Sight>(sight: &V, query: &AvailQuery, row: &Row) -> bool
+    ensures { result ≡ passes (V.seen sight.now) query.now row.now }
 {
-    let matched = matched.has(&row.header.name)?;
-    Ok(matched && sight.sees(row) && has_quality(query.qualities, row.header.quality))
+    sight.sees(row) && has_quality(query.qualities, row.header.quality)
 }
 
-// The ranks of the rows that are asked for.
+// Adds the rank of the row at a place, if it is asked for.
+fn add_rank<S: Shelf, V: Sight>(
+    ranks: &mut BTreeSet<Rank>,
+    shelf: &S,
+    sight: &V,
+    query: &AvailQuery,
+    place: usize,
+) -> Result<(), OutOfMemory>
+    ensures ok { OnOk result (ranks.new.keys ≡ in_order rank_cmp ranks.old.keys (rank_if (passes (V.seen sight.now) query.now) query.now place (slice_get (S.rows shelf.now) place))) }
+{
+    if place >= shelf.len() {
+        return Ok(());
+    }
+    let row = shelf.row(place);
+    if passes(sight, query, row) {
+        ranks.insert(rank_of(query, place, row))?;
+    }
+    Ok(())
+}
+
+// The ranks of the rows at some places that are asked for.
 fn ranks<S: Shelf, V: Sight>(
     alloc: Global,
     shelf: &S,
     sight: &V,
     query: &AvailQuery,
+    places: &[usize],
 ) -> Result<BTreeSet<Rank>, OutOfMemory>
-    ensures { IfOk result (λ ranks. ranks.keys ≡ ranks_of (V.seen sight.now) query.now (S.rows shelf.now)) }
+    ensures { IfOk result (λ ranks. ranks.keys ≡ in_order rank_cmp [] (ranks_at (passes (V.seen sight.now) query.now) query.now (S.rows shelf.now) places.now)) }
 {
-    let mut matched = Matched::new(alloc, query.selections.as_slice());
     let mut ranks = BTreeSet::new(alloc);
-    'rows: for index in 0..shelf.len() {
-        let row = shelf.row(index);
-        if is_asked(&mut matched, sight, query, row)? {
-            ranks.insert(rank_of(query, index, row))?;
-        }
+    'places: for place in places {
+        add_rank(&mut ranks, shelf, sight, query, *place)?;
     }
     Ok(ranks)
 }
@@ -91,15 +102,17 @@ fn rows_ranked<'a, S: Shelf>(
     Ok(rows)
 }
 
-/// The rows that are asked for, in order for their spans.
-pub fn rows_asked<'a, S: Shelf, V: Sight>(
+/// The rows of a name that are asked for, in order for their spans.
+pub fn rows_named<'a, S: Shelf, V: Sight>(
     alloc: Global,
     shelf: &'a S,
     sight: &V,
     query: &AvailQuery,
+    name: &Nslc,
 ) -> Result<Many<&'a Row>, OutOfMemory>
-    ensures { IfOk result (λ rows. map (λ r. r.now) rows ≡ rows_in_order (merging_of query.now) (is_asked (V.seen sight.now) query.now) (S.rows shelf.now)) }
+    ensures { IfOk result (λ rows. map (λ r. r.now) rows ≡ rows_in_order (merging_of query.now) (is_asked_of (V.seen sight.now) query.now name.now) (S.rows shelf.now)) }
 {
-    let ranks = ranks(alloc, shelf, sight, query)?;
+    let places = shelf.places_named(name)?;
+    let ranks = ranks(alloc, shelf, sight, query, places.as_slice())?;
     rows_ranked(alloc, shelf, &ranks)
 }

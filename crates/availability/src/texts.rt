@@ -2,13 +2,14 @@
 ghost use Rattle.std.specs.Prelude.{◌≡◌, ◌++◌, [], map, IfOk, IfErr, Ok};
 ghost use Rattle.std.specs.List.{AllByRecursion, concat};
 ghost use Rattle.line_columns.specs.Answers.{RefusesTextAs};
+ghost use Rattle.availability.specs.Channels.{AreNamed, all_spans};
 ghost use Rattle.availability.specs.Fields.{IsPrintableLine};
 ghost use Rattle.availability.specs.Lines.{lines_of};
 ghost use Rattle.availability.specs.Texts.{line_text, firsts_after, limited, header_text, answer_of};
 
+use crate::channel::ChannelSpans;
 use crate::fields::{Field, write_fields};
 use crate::line::{Line, lines};
-use crate::span::TimeSpan;
 use exact_time::{Many, OutOfMemory, Text, TextRefusal};
 use query_parameters::AvailForm;
 use query_words::{AvailMethod, AvailQuery};
@@ -142,14 +143,15 @@ pub fn body(
     alloc: Global,
     method: AvailMethod,
     query: &AvailQuery,
-    spans: &[TimeSpan],
+    channels: &[ChannelSpans],
     max_lines: u64,
 ) -> Result<Text, TextRefusal>
-    requires { AllByRecursion IsPrintableLine (lines_of method query.now spans.now) }
-    ensures text { IfOk result (λ text. answer_of method query.now max_lines spans.now ≡ Ok text) }
-    ensures refused { IfErr result (RefusesTextAs (answer_of method query.now max_lines spans.now)) }
+    requires named { AreNamed channels.now }
+    requires printable { AllByRecursion IsPrintableLine (lines_of method query.now (all_spans channels.now)) }
+    ensures text { IfOk result (λ text. answer_of method query.now max_lines (all_spans channels.now) ≡ Ok text) }
+    ensures refused { IfErr result (RefusesTextAs (answer_of method query.now max_lines (all_spans channels.now))) }
 {
-    let lines = lines(alloc, method, query, spans)?;
+    let lines = lines(alloc, method, query, channels)?;
     let texts = firsts(alloc, query.form, method, &lines)?;
     let shown = limited(texts.as_slice(), query.limit);
     if shown.is_empty() {

@@ -1,8 +1,10 @@
 //! What a selection keeps of time spans.
-ghost use Rattle.std.specs.Prelude.{◌≡◌, ◌+◌, ◌<◌, ◌^◌, int_le, length, IfOk};
+ghost use Rattle.std.specs.Prelude.{◌≡◌, ◌+◌, ◌<◌, ◌^◌, ◌++◌, int_le, length, IfOk, OnOk};
 ghost use Rattle.dataselect.specs.Query.{holds};
-ghost use Rattle.availability.specs.Windows.{earlier_of, later_of, AreAlone, is_kept, from_limit, to_limit, clipped, kept, is_other_group, wider, extents, windows_of};
+ghost use Rattle.availability.specs.Channels.{AreNamed, all_spans};
+ghost use Rattle.availability.specs.Windows.{earlier_of, later_of, AreAlone, meets, from_limit, to_limit, clipped, kept_within, kept, is_other_group, wider, extents, windows_of};
 
+use crate::channel::ChannelSpans;
 use crate::span::{TimeSpan, Window};
 use dataselect::Selection;
 use exact_time::{Many, Moment, OutOfMemory};
@@ -43,12 +45,11 @@ fn is_begun(first: Moment, end: Option<Moment>) -> bool
     }
 }
 
-fn keeps(selection: &Selection, span: &TimeSpan) -> bool
-    ensures { result ≡ is_kept selection.now span.now }
+// Whether the span meets the selection's window.
+fn meets(selection: &Selection, span: &TimeSpan) -> bool
+    ensures { result ≡ meets selection.now span.now }
 {
-    selection.names(&span.group.name)
-        && is_reached(span.last, selection.start)
-        && is_begun(span.start, selection.end)
+    is_reached(span.last, selection.start) && is_begun(span.start, selection.end)
 }
 
 fn from_limit(limit: Option<Moment>, moment: Moment) -> Moment
@@ -83,18 +84,35 @@ fn clipped(selection: &Selection, span: &TimeSpan) -> Window
     }
 }
 
-// What the selection keeps, span by span.
+// Adds what the selection's window keeps of spans.
+fn add_kept(
+    windows: &mut Many<Window>,
+    selection: &Selection,
+    spans: &[TimeSpan],
+) -> Result<(), OutOfMemory>
+    ensures ok { OnOk result (windows.new ≡ windows.old ++ kept_within selection.now spans.now) }
+{
+    'spans: for span in spans {
+        if meets(selection, span) {
+            windows.push(clipped(selection, span))?;
+        }
+    }
+    Ok(())
+}
+
+// What the selection keeps, span by span. It walks the spans of the channels that it matches alone.
 fn kept(
     alloc: Global,
     selection: &Selection,
-    spans: &[TimeSpan],
+    channels: &[ChannelSpans],
 ) -> Result<Many<Window>, OutOfMemory>
-    ensures { IfOk result (λ windows. windows ≡ kept selection.now spans.now) }
+    requires { AreNamed channels.now }
+    ensures { IfOk result (λ windows. windows ≡ kept selection.now (all_spans channels.now)) }
 {
     let mut windows = Many::new(alloc);
-    'spans: for span in spans {
-        if keeps(selection, span) {
-            windows.push(clipped(selection, span))?;
+    'channels: for channel in channels {
+        if selection.names(&channel.name) {
+            add_kept(&mut windows, selection, channel.spans.as_slice())?;
         }
     }
     Ok(windows)
@@ -148,11 +166,12 @@ pub fn windows(
     alloc: Global,
     method: AvailMethod,
     selection: &Selection,
-    spans: &[TimeSpan],
+    channels: &[ChannelSpans],
 ) -> Result<Many<Window>, OutOfMemory>
-    ensures { IfOk result (λ windows. windows ≡ windows_of method selection.now spans.now) }
+    requires { AreNamed channels.now }
+    ensures { IfOk result (λ windows. windows ≡ windows_of method selection.now (all_spans channels.now)) }
 {
-    let kept = kept(alloc, selection, spans)?;
+    let kept = kept(alloc, selection, channels)?;
     match method {
         AvailMethod::Spans => Ok(kept),
         AvailMethod::Extent => extents(alloc, kept.as_slice()),

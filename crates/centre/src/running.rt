@@ -20,7 +20,7 @@ use dataselect::{All, DataRefusal, answer};
 use disk_model::Disk;
 use std::alloc::Global;
 use streams::{Sink, Source, put_all};
-use time_index::IndexedShelf;
+use time_index::TimeIndex;
 
 // How a refusal of the answer stops the run.
 fn stop_for_data(limit: u64, refusal: DataRefusal) -> Stop
@@ -48,7 +48,7 @@ fn select<S: Source, K: Sink>(
         Ok(query) => query,
         Err(stop) => return Err(stop),
     };
-    let mut shelf = IndexedShelf::new(alloc);
+    let mut shelf = TimeIndex::new(alloc);
     match take_records(alloc, &query, source, &mut shelf) {
         Ok(()) => (),
         Err(untaken) => return Err(untaken),

@@ -38,7 +38,7 @@ use Rattle.dataselect.proofs.Breaks.{are_segments}
 
 -- where the items that pass stand among all
 module _ {X : Type 0} (p : X → Bool) where
-  abbrev step : Bool → (ℕ → ℕ) → ℕ → ℕ
+  abbrev pub step : Bool → (ℕ → ℕ) → ℕ → ℕ
   step true f zero = 0
   step true f (suc i) = suc (f i)
   step false f i = suc (f i)
@@ -54,7 +54,7 @@ module _ {X : Type 0} (p : X → Bool) where
   first_rises f up (suc i) zero h = absurd (omega (arith, h))
   first_rises f up (suc i) (suc j) h = omega (arith, up i j (omega (arith, h)))
 
-  rises : (xs : List X) (i j : ℕ) → i < j → among xs i < among xs j
+  pub rises : (xs : List X) (i j : ℕ) → i < j → among xs i < among xs j
   rises [] i j h = h
   rises (x ∷ xs) i j h =
       let more = rises xs in
@@ -89,7 +89,7 @@ module _ {K : Type 0} (cmp : K → K → Ordering) (f : K → K) (same : (a b : 
         | Greater ↦ refl
       ]
 
-  in_order_mapped : (done keys : List K) → in_order cmp (map f done) (map f keys) ≡ map f (in_order cmp done keys)
+  pub in_order_mapped : (done keys : List K) → in_order cmp (map f done) (map f keys) ≡ map f (in_order cmp done keys)
   in_order_mapped done [] = refl
   in_order_mapped done (k ∷ keys) = ap (λ (ks : List K). in_order cmp ks (map f keys)) (inserted_mapped done k) ∙ in_order_mapped (insert_key cmp done k) keys
 
@@ -105,7 +105,7 @@ moved g r = record {
 }
 
 module _ (g : ℕ → ℕ) (up : (i j : ℕ) → i < j → g i < g j) where
-  same_order : (i j : ℕ) → nat_cmp (g i) (g j) ≡ nat_cmp i j
+  pub same_order : (i j : ℕ) → nat_cmp (g i) (g j) ≡ nat_cmp i j
   same_order i j =
       elim (cases_lt i j) [
         | inl less ↦ sym (nat_cmp_is (g i) (g j) Less (up i j less)) ∙ nat_cmp_is i j Less less
@@ -284,7 +284,7 @@ same_answer seen query max_bytes p asked rows =
     ∙ body_moved rows few g same max_bytes (picked_places seen query few)
 
 -- rows with equal bytes have equal headers
-same_header : (a b : Row) → bytes_eq a.image b.image ≡ true → a.header ≡ b.header
+pub same_header : (a b : Row) → bytes_eq a.image b.image ≡ true → a.header ≡ b.header
 same_header a b e =
     let image : a.image ≡ b.image = (bytes_eq-Decides a.image b.image).0 e in
     one_header b.image a.header b.header (subst (λ (bytes : List ℕ). HasHeader bytes a.header) image (record_header a.image a.header a.head)) (record_header b.image b.header b.head)

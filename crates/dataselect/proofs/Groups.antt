@@ -52,7 +52,7 @@ groups_total m =
     then_total (on_total (λ (h : Header). h.name) names_total)
     (then_total (unless_merged m.quality (on_total (λ (h : Header). h.quality) qualities_total)) (unless_merged m.rate (on_total (λ (h : Header). h.rate) rates_total)))
 
-placed_total : (m : Merging) → IsTotalOrder (placed_cmp m)
+pub placed_total : (m : Merging) → IsTotalOrder (placed_cmp m)
 placed_total m =
     then_total (on_total (λ (p : ℕ × Row). p.1.header) (groups_total m))
     (then_total (on_total (λ (p : ℕ × Row). p.1.header.start.micros) int_cmp_total)

@@ -6,6 +6,7 @@ pub mod Covered
 pub mod Cuts
 pub mod Examples
 pub mod Fewer
+pub mod Floors
 pub mod Fractions
 pub mod GroupCuts
 pub mod GroupPass
@@ -16,12 +17,15 @@ pub mod Kept
 pub mod Members
 pub mod NamesHeld
 pub mod Orders
+pub mod Parts
+pub mod Placed
 pub mod Ranks
 pub mod Reaches
 pub mod Rises
 pub mod RunLens
 pub mod RunPlaces
 pub mod SpanRanks
+pub mod Splits
 pub mod Steps
 pub mod Waits
 pub mod Wholes

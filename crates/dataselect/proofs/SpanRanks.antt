@@ -76,13 +76,16 @@ fetched : (rows : List Row) (ps : List (ℕ × Row)) → AllByRecursion (λ p. s
 fetched rows [] all = refl
 fetched rows (p ∷ ps) all = (λ i. row_or_none (all.0 i) ++ fetched rows ps all.1 i)
 
-pub ranked_in_order : (name : Nslc) (rows : List Row) → rows_ranked rows (ranks_named name rows) ≡ rows_in_order by_quality_and_rate (has_name name) rows
-ranked_in_order name rows =
-    let placed = placed_from (has_name name) 0 rows in
+pub ranked_rows : (test : Row → Bool) (rows : List Row) → rows_ranked rows (in_order span_rank_cmp [] (map rank_placed (placed_from test 0 rows))) ≡ rows_in_order by_quality_and_rate test rows
+ranked_rows test rows =
+    let placed = placed_from test 0 rows in
     let same : (k : ℕ) → 0 + k ≡ k = λ k. omega arith in
     ap (rows_ranked rows) (sym (in_order_mapped rank_placed (placed_cmp by_quality_and_rate) span_rank_cmp ranks_stand [] placed))
     ∙ fetched rows (in_order (placed_cmp by_quality_and_rate) [] placed)
-    (all_in_order (placed_cmp by_quality_and_rate) (λ p. slice_get rows p.0 ≡ Some p.1) [] placed tt (all_placed (has_name name) rows 0 rows (λ k. ap (slice_get rows) (same k))))
+    (all_in_order (placed_cmp by_quality_and_rate) (λ p. slice_get rows p.0 ≡ Some p.1) [] placed tt (all_placed test rows 0 rows (λ k. ap (slice_get rows) (same k))))
+
+pub ranked_in_order : (name : Nslc) (rows : List Row) → rows_ranked rows (ranks_named name rows) ≡ rows_in_order by_quality_and_rate (has_name name) rows
+ranked_in_order name rows = ranked_rows (has_name name) rows
 
 pub none_there : {X : Type 0} (xs : List X) (i : ℕ) → length xs ≤ i → slice_get xs i ≡ None
 none_there [] i h = refl

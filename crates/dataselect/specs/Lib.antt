@@ -7,6 +7,7 @@ pub mod MergedSpans
 pub mod Order
 pub mod Picked
 pub mod PickedLaw
+pub mod Places
 pub mod Query
 pub mod Rows
 pub mod Runs

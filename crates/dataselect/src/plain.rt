@@ -4,6 +4,7 @@ ghost use Rattle.std.specs.Vec.{vec_len, vec_capacity};
 ghost use Rattle.dataselect.specs.Rows.{has_image, with_rows};
 ghost use Rattle.dataselect.specs.Chosen.{passes, ranks_chosen, chosen_places};
 ghost use Rattle.dataselect.specs.HeldNames.{names_of};
+ghost use Rattle.dataselect.specs.Places.{places_named};
 ghost use Rattle.dataselect.specs.SpanOrder.{ranks_named};
 
 use crate::names::list_names;
@@ -76,6 +77,19 @@ fn names_matched(
         }
     }
     Ok(names)
+}
+
+// The places of the rows of a name.
+fn places_named(alloc: Global, rows: &[Row], name: &Nslc) -> Result<Many<usize>, OutOfMemory>
+    ensures { IfOk result (λ places. places ≡ places_named name.now rows.now) }
+{
+    let mut places = Many::new(alloc);
+    'rows: for (index, row) in rows.iter().enumerate() {
+        if is_same_name(&row.header.name, name) {
+            places.push(index)?;
+        }
+    }
+    Ok(places)
 }
 
 // The ranks of the rows of a name, in order for their spans.
@@ -162,6 +176,10 @@ impl Shelf for PlainShelf {
     fn names(&self, selection: &Selection) -> Result<Many<Nslc>, OutOfMemory> {
         let names = names_matched(self.alloc, self.rows.as_slice(), selection)?;
         list_names(self.alloc, &names)
+    }
+
+    fn places_named(&self, name: &Nslc) -> Result<Many<usize>, OutOfMemory> {
+        places_named(self.alloc, self.rows.as_slice(), name)
     }
 
     fn merged_spans(&self, name: &Nslc) -> Result<Many<Span>, OutOfMemory> {

@@ -5,6 +5,7 @@ ghost use Rattle.mseed_header.specs.declared.row.Row.{Row};
 ghost use Rattle.dataselect.specs.HeldNames.{names_of};
 ghost use Rattle.dataselect.specs.MergedSpans.{value_of, merged_spans_of};
 ghost use Rattle.dataselect.specs.Picked.{picked_places};
+ghost use Rattle.dataselect.specs.Places.{places_named};
 ghost use Rattle.dataselect.specs.Rows.{inserted_as, with_row, with_rows};
 
 use crate::query::{DataQuery, Selection};
@@ -59,6 +60,10 @@ pub trait Shelf {
     /// nothing.
     fn names(&self, selection: &Selection) -> Result<Many<Nslc>, OutOfMemory>
         ensures { IfOk result (λ names. names ≡ names_of selection.now (rows self.now)) };
+
+    /// The places of the rows of a name, ascending.
+    fn places_named(&self, name: &Nslc) -> Result<Many<usize>, OutOfMemory>
+        ensures { IfOk result (λ places. places ≡ places_named name.now (rows self.now)) };
 
     /// The spans of all rows of a name, each quality and rate by itself, in order of quality letter, rate and
     /// start. A row joins where it starts up to half a sample period behind what an earlier one reaches.

@@ -2,9 +2,15 @@ pub mod Covers
 pub mod Examples
 pub mod Found
 pub mod Grown
+pub mod KeptKinds
+pub mod KeptOrder
+pub mod KeptRows
+pub mod KeptStep
 pub mod Lasts
+pub mod Mending
 pub mod Named
 pub mod NamesFound
+pub mod PlacesFound
 pub mod Sets
 pub mod Shrunk
 pub mod SpansFound

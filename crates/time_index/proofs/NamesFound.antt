@@ -13,7 +13,10 @@ use Rattle.channel_globs.specs.Names.{name_cmp}
 use Rattle.channel_globs.proofs.Names.{names_total, exact_names}
 use Rattle.mseed_header.specs.declared.row.Row.{Row}
 use Rattle.dataselect.specs.HeldNames.{names_of}
+use Rattle.dataselect.specs.MergedSpans.{has_name}
 use Rattle.dataselect.specs.Query.{is_named}
+use Rattle.dataselect.proofs.Rises.{same_name_of}
+use Rattle.dataselect.proofs.Rises as rises
 use Rattle.dataselect.specs.declared.query.Selection.{Selection}
 use Rattle.dataselect.proofs.NamesHeld.{equal, same_names, equal_names, filtered}
 use Rattle.time_index.specs.declared.spot.Spot.{Spot}
@@ -25,7 +28,7 @@ use Rattle.time_index.proofs.Named.{same_name}
 use Rattle.time_index.proofs.Sets.{itself}
 
 -- there is a channel, and it has a row
-abbrev full : Option Channel → Bool
+abbrev pub full : Option Channel → Bool
 full None = false
 full (Some channel) = has_rows channel
 
@@ -148,3 +151,19 @@ names_found s rows m all index =
     in_entries s m q m.entries all
     ∙ ap (λ b. is_named s q && b) (full_there s m q (get name_cmp m q) refl ∙ full_is rows m index q)
     ∙ sym (filtered (is_named s) q rows))
+
+-- the two tests of a name are one
+named_alike : (name : Nslc) (row : Row) → equal name row.header.name ≡ has_name name row
+named_alike name row =
+    same_bool (equal name row.header.name) (has_name name row)
+    (λ h. same_name_of row.header.name name (sym (same_names name row.header.name h)))
+    (λ h. equal_names name row.header.name (sym (rises.same_names row.header.name name h)))
+  where
+    same_bool : (a b : Bool) → (a ≡ true → b ≡ true) → (b ≡ true → a ≡ true) → a ≡ b
+    same_bool true b f g = sym (f refl)
+    same_bool false true f g = g refl
+    same_bool false false f g = refl
+
+-- a channel has rows exactly where some row has its name
+pub name_found : (name : Nslc) (rows : List Row) (m : BTreeMap Nslc Channel) → IsChannelIndex rows m → full (get name_cmp m name) ≡ list_any (has_name name) rows
+name_found name rows m index = full_is rows m index name ∙ (λ i. list_any (λ row. named_alike name row i) rows)

@@ -166,7 +166,7 @@ named_same : (a b : Nslc) → is_same_name a b ≡ true → is_same a b ≡ true
 named_same a b h = ap (λ n. is_same n b) (same_names a b h) ∙ ap is_eq (tied_itself names_total b)
 
 module _ (rows : List Row) (m : BTreeMap Nslc Channel) (index : IsChannelIndex rows m) (name : Nslc) where
-  reached : Reach (has_name name) rows (places_of (get name_cmp m name))
+  pub reached : Reach (has_name name) rows (places_of (get name_cmp m name))
   reached p row at named =
       in_channel (get name_cmp m name) (spot_at p row)
       (index.spots name (spot_at p row) ∙ ap (is_there name (spot_at p row)) at

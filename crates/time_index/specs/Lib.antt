@@ -1,5 +1,6 @@
 pub mod Doubles
 pub mod Index
+pub mod Kept
 pub mod Names
 pub mod SpanRanks
 pub mod Spots

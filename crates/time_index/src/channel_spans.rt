@@ -1,7 +1,8 @@
-//! The rows of one channel, in order for their spans.
+//! The rows of one channel, by their places and in order for their spans.
 ghost use Rattle.std.specs.Prelude.{◌≡◌, List, [], IfOk, OnOk, map};
 ghost use Rattle.std.specs.BTreeMap.{get};
 ghost use Rattle.std.specs.List.{slice_get};
+ghost use Rattle.std.specs.Ordering.{nat_cmp};
 ghost use Rattle.list_laws.specs.InOrder.{in_order};
 ghost use Rattle.channel_globs.specs.Names.{name_cmp};
 ghost use Rattle.dataselect.specs.MergedSpans.{has_name};
@@ -12,7 +13,7 @@ use crate::channels::Channel;
 use crate::spot::Spot;
 use channel_globs::Nslc;
 use dataselect::{SpanRank, span_rank_of};
-use exact_time::OutOfMemory;
+use exact_time::{Many, OutOfMemory};
 use mseed_header::Row;
 use std::alloc::Global;
 use std::collections::{BTreeMap, BTreeSet};
@@ -70,5 +71,41 @@ pub fn channel_ranks(
     match channels.get(name) {
         Some(channel) => ranks_at(alloc, rows, &channel.spots, name),
         None => Ok(BTreeSet::new(alloc)),
+    }
+}
+
+// The places of the rows at some spots, ascending.
+fn places_at(alloc: Global, spots: &BTreeSet<Spot>) -> Result<BTreeSet<usize>, OutOfMemory>
+    ensures { IfOk result (λ places. places.keys ≡ in_order nat_cmp [] (map (λ spot. spot.place) spots.now.keys)) }
+{
+    let mut places = BTreeSet::new(alloc);
+    'spots: for spot in spots {
+        places.insert(spot.place)?;
+    }
+    Ok(places)
+}
+
+// The places in a list, in their order.
+fn list_places(alloc: Global, places: &BTreeSet<usize>) -> Result<Many<usize>, OutOfMemory>
+    ensures { IfOk result (λ list. list ≡ places.now.keys) }
+{
+    let mut list = Many::new(alloc);
+    'places: for place in places {
+        list.push(*place)?;
+    }
+    Ok(list)
+}
+
+/// The places of the rows of the channel of that name, ascending.
+pub fn channel_places(
+    alloc: Global,
+    channels: &BTreeMap<Nslc, Channel>,
+    name: &Nslc,
+) -> Result<Many<usize>, OutOfMemory>
+    ensures { IfOk result (λ places. places ≡ in_order nat_cmp [] (places_of (get name_cmp channels.now name.now))) }
+{
+    match channels.get(name) {
+        Some(channel) => list_places(alloc, &places_at(alloc, &channel.spots)?),
+        None => Ok(Many::new(alloc)),
     }
 }

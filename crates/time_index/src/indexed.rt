@@ -3,16 +3,18 @@ ghost use Rattle.std.specs.Prelude.{◌≡◌, ℕ, ◌+◌, ◌-◌, ◌^◌, �
 ghost use Rattle.std.specs.Vec.{vec_len, vec_capacity};
 ghost use Rattle.dataselect.specs.Chosen.{chosen_places};
 ghost use Rattle.dataselect.specs.HeldNames.{names_of};
-ghost use Rattle.dataselect.specs.MergedSpans.{value_of, merged_spans_of};
+ghost use Rattle.std.specs.List.{list_any};
+ghost use Rattle.dataselect.specs.MergedSpans.{value_of, merged_spans_of, has_name};
+ghost use Rattle.dataselect.specs.Places.{places_named};
 ghost use Rattle.dataselect.specs.Rows.{has_image, with_rows};
 ghost use Rattle.time_index.specs.Index.{IsChannelIndex};
 ghost use Rattle.time_index.specs.Spots.{spot_at};
 ghost use Rattle.time_index.specs.Windows.{Cover, is_place_among};
 
-use crate::channel_spans::channel_ranks;
+use crate::channel_spans::{channel_places, channel_ranks};
 use crate::channels::{Channel, add_spot, remove_spot};
 use crate::doubles::is_twin;
-use crate::names::names_matched;
+use crate::names::{has_name, names_matched};
 use crate::spot::{Spot, micros_lasted, spot_of};
 use crate::windows::{candidates, ranks_at};
 use channel_globs::Nslc;
@@ -24,11 +26,11 @@ use mseed_header::Row;
 use std::alloc::Global;
 use std::collections::BTreeMap;
 
-/// A shelf that finds its rows by channel and time. An insertion costs a logarithm, and a query the rows
-/// of its windows. A sender who makes many records of one channel with one start and one fingerprint
+/// A shelf that finds its rows by channel and time, and keeps no spans: it makes them of its rows when they are
+/// asked for. An insertion costs a logarithm, and a query the rows of its windows. A sender who makes many records of one channel with one start and one fingerprint
 /// costs time alone: each of them is compared with the others byte by byte.
 #[derive(Drop)]
-pub struct IndexedShelf {
+pub struct TimeIndex {
     alloc: Global,
     rows: Vec<Row>,
     channels: BTreeMap<Nslc, Channel>,
@@ -58,12 +60,12 @@ fn all_places(alloc: Global, len: usize) -> Result<Many<usize>, OutOfMemory>
     Ok(places)
 }
 
-impl IndexedShelf {
+impl TimeIndex {
     /// A shelf without rows. Takes no memory.
     pub fn new(alloc: Global) -> Self
-        ensures { ⟦<IndexedShelf as Shelf>⟧.rows result ≡ [] }
+        ensures { ⟦<TimeIndex as Shelf>⟧.rows result ≡ [] }
     {
-        IndexedShelf {
+        TimeIndex {
             alloc,
             rows: Vec::new(alloc),
             channels: BTreeMap::new(alloc),
@@ -99,8 +101,15 @@ impl IndexedShelf {
         Ok(())
     }
 
-    // Takes the last row out. Takes no memory.
-    fn drop_last(&mut self)
+    /// Whether some row has that name.
+    pub(crate) fn has_name(&self, name: &Nslc) -> bool
+        ensures { result ≡ list_any (has_name name.now) self.now.rows.items }
+    {
+        has_name(&self.channels, name)
+    }
+
+    /// Takes the last row out. Takes no memory.
+    pub(crate) fn drop_last(&mut self)
         requires some { 0 < length self.old.rows.items }
         ensures { self.new.rows.items ≡ take (length self.old.rows.items - 1) self.old.rows.items }
     {
@@ -151,7 +160,7 @@ impl IndexedShelf {
     }
 }
 
-impl Shelf for IndexedShelf {
+impl Shelf for TimeIndex {
     ghost rows = { λ s. s.rows.items };
 
     fn len(&self) -> usize {
@@ -188,6 +197,11 @@ impl Shelf for IndexedShelf {
     fn names(&self, selection: &Selection) -> Result<Many<Nslc>, OutOfMemory> {
         let names = names_matched(self.alloc, &self.channels, selection)?;
         list_names(self.alloc, &names)
+    }
+
+    fn places_named(&self, name: &Nslc) -> Result<Many<usize>, OutOfMemory> {
+        let places = channel_places(self.alloc, &self.channels, name)?;
+        Ok(places)
     }
 
     fn merged_spans(&self, name: &Nslc) -> Result<Many<Span>, OutOfMemory> {

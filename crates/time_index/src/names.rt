@@ -1,5 +1,7 @@
 //! The names of the channels that have rows.
 ghost use Rattle.std.specs.Prelude.{◌≡◌, ◌&&◌, List, IfOk};
+ghost use Rattle.std.specs.List.{list_any};
+ghost use Rattle.dataselect.specs.MergedSpans.{has_name};
 ghost use Rattle.dataselect.specs.HeldNames.{names_of};
 ghost use Rattle.dataselect.specs.Query.{is_named};
 ghost use Rattle.mseed_header.specs.declared.row.Row.{Row};
@@ -42,4 +44,14 @@ pub fn names_matched(
         }
     }
     Ok(names)
+}
+
+/// Whether some row has that name.
+pub fn has_name(channels: &BTreeMap<Nslc, Channel>, name: &Nslc) -> bool
+    ensures { (rows : List Row) → IsChannelIndex rows channels.now → result ≡ list_any (has_name name.now) rows }
+{
+    match channels.get(name) {
+        Some(channel) => has_rows(channel),
+        None => false,
+    }
 }

@@ -2,7 +2,7 @@
 ghost use Rattle.std.specs.Prelude.{◌<◌};
 
 use super::records::{FIRST_SECOND, anmo_record, changed, cut, selection};
-use crate::IndexedShelf;
+use crate::TimeIndex;
 use dataselect::{All, DataQuery, Inserted, Nodata, Shelf};
 use exact_time::{Many, Moment};
 use std::alloc::Global;
@@ -43,8 +43,8 @@ fn record_of(number: u32) -> [u8; 512]
     changed(numbered, 20, &btime_bytes(number))
 }
 
-fn filled(alloc: Global) -> Result<IndexedShelf, Fail> {
-    let mut shelf = IndexedShelf::new(alloc);
+fn filled(alloc: Global) -> Result<TimeIndex, Fail> {
+    let mut shelf = TimeIndex::new(alloc);
     for number in 0..ROWS {
         let rows = cut(alloc, &record_of(number), number as u64)?;
         for row in rows.into_vec() {

@@ -13,4 +13,4 @@ insert_all-requires c =
 pub returns-clause-rows : goal.returns-clause-rows
 returns-clause-rows c =
     c.in_ok-insert_all.ensures.ok
-    ∙ ap (with_rows c.args.shelf.now.rows.items) (c.in_ok-rows.ensures ∙ ap (batch_rows c.args.entry.number c.args.entry.moment) c.as_slice.ensures)
+    ∙ ap (with_rows c.args.shelf.now.index.rows.items) (c.in_ok-rows.ensures ∙ ap (batch_rows c.args.entry.number c.args.entry.moment) c.as_slice.ensures)

@@ -1,6 +1,10 @@
-use Rattle.std.proofs.Common.{◌≡◌, map, filter, take}
-use Rattle.availability.specs.Windows.{is_kept, clipped}
+use Rattle.std.proofs.Common.{◌≡◌, ◌++◌, drop}
+use Rattle.availability.specs.Channels.{all_spans, AreNamed}
+use Rattle.availability.specs.Windows.{kept}
 use Rattle.availability.proofs.window.kept.Given as goal
 
-abbrev pub invariant-spans : goal.invariant-spans
-invariant-spans l = l.windows ≡ map (clipped l.selection) (filter (is_kept l.selection) (take l.span-index l.spans))
+abbrev pub invariant-channels : goal.invariant-channels
+invariant-channels l = record {
+  windows : l.windows ++ kept l.selection (all_spans (drop l.channel-index l.channels)) ≡ kept l.selection (all_spans l.channels);
+  named : AreNamed (drop l.channel-index l.channels);
+}

@@ -1,0 +1,8 @@
+use Rattle.std.proofs.Common.{◌≡◌, take, length}
+use Rattle.time_index.proofs.shelf.IndexedShelf.cut_back.Given as goal
+
+abbrev pub invariant-rows : goal.invariant-rows
+invariant-rows l = take l.len l.self.index.rows.items ≡ take l.len l.fn.self.index.rows.items
+
+abbrev pub decreases-rows : goal.decreases-rows
+decreases-rows l = length l.self.index.rows.items
