@@ -1,12 +1,12 @@
 -- What the body of an entry says, by its kind.
-use Rattle.std.specs.Prelude.{ℕ, Bool, true, false, List, Option, Some, None, is_none, Result, Ok, Err}
+use Rattle.std.specs.Prelude.{◌≡◌, ◌≤◌, length, ℕ, Bool, true, false, List, Option, Some, None, is_none, Result, Ok, Err}
 use Rattle.list_laws.specs.Only.{IsOnly}
 use Rattle.epochs.specs.Lines.{LineValues}
 use Rattle.epochs.specs.Revisions.{IsRevision, IsRevisionFault}
 use Rattle.epochs.specs.declared.fault.RevisionFault.{RevisionFault}
 use Rattle.epochs.specs.declared.fault.RevisionFault.TheVariants as revision
 use Rattle.epochs.proofs.OneRevision.{revision_or_fault}
-use Rattle.archive_entry.specs.Batches.{batch_fault}
+use Rattle.archive_entry.specs.Batches.{batch_of, batch_fault}
 use Rattle.archive_entry.specs.declared.entry.Kind.{Kind}
 use Rattle.archive_entry.specs.declared.entry.Kind.TheVariants.{Batch, Revise}
 
@@ -33,3 +33,13 @@ abbrev pub told_lines : Result (List LineValues) RevisionFault → Option Bool
 told_lines (Ok lines) = Some true
 told_lines (Err (revision.Bad line fault)) = Some false
 told_lines (Err revision.OutOfMemory) = None
+
+-- the body of a batch is so many records, end to end; a revision has none
+abbrev pub HasRecords : Kind → List ℕ → ℕ → Type 0
+HasRecords Batch body n = batch_of body ≡ Ok n
+HasRecords Revise body n = n ≡ 0
+
+-- a body of the kind has so many records, each with a byte at least
+pub record IsCounted (kind : Kind) (body : List ℕ) (n : ℕ) : Type 0 where
+  pub count : HasRecords kind body n
+  pub few : n ≤ length body

@@ -1,10 +1,11 @@
 -- The fields of a payload, each with the offset at which it begins, and the first that can't stand there. A byte
 -- that isn't there counts as 0.
-use Rattle.std.specs.Prelude.{◌≡◌, ℕ, ◌+◌, ◌==◌, ◌&&◌, ◌||◌, Bool, List, length, slice_index, take, drop, Option, Some, None, nat_le, if◌then◌else◌, ⊤}
+use Rattle.std.specs.Prelude.{◌≡◌, ℕ, ◌+◌, ◌==◌, ◌&&◌, ◌||◌, Bool, List, length, slice_index, take, drop, Option, Some, None, Result, Ok, Err, nat_le, if◌then◌else◌, ⊤}
 use Rattle.std.specs.Int.{w32, from_be_bytes}
 use Rattle.epochs.specs.Fields.{is_user_name}
 use Rattle.archive_entry.specs.Bodies.{is_body}
 use Rattle.archive_entry.specs.Spelling.{most_bytes}
+use Rattle.archive_entry.specs.declared.entry.Entry.{Entry}
 use Rattle.archive_entry.specs.declared.entry.Kind.{Kind}
 use Rattle.archive_entry.specs.declared.entry.Kind.TheVariants.{Batch, Revise}
 use Rattle.archive_entry.specs.declared.fault.EntryFault.{EntryFault}
@@ -88,3 +89,8 @@ IsEntryFault payload fault.OutOfMemory = ⊥
 abbrev pub RefusesPayload : List ℕ → EntryFault → Type 0
 RefusesPayload payload (fault.Bad at) = bad_field payload ≡ Some at
 RefusesPayload payload fault.OutOfMemory = ⊤
+
+-- what was read, without how many records it has
+abbrev pub entry_read : Result (Entry × ℕ) EntryFault → Result Entry EntryFault
+entry_read (Ok read) = Ok read.0
+entry_read (Err fault) = Err fault

@@ -1,10 +1,10 @@
 //! The entries of an archive, and the one spelling of each.
 //!
 //! What the crates above use: [`encode`] gives the bytes of an [`Entry`], and [`decode`] reads it back: Ok exactly
-//! where the payload spells that entry (`Spells` of `specs/Spelling.antt`), and else the offset of the first field
-//! that breaks the format (`bad_field` of `specs/Format.antt`). An entry is its number, its moment, its author, its
-//! number among the author's, its kind and a body, which are the records of a batch, end to end, or the lines of a
-//! revision.
+//! where the payload spells that entry (`Spells` of `specs/Spelling.antt`), and else the offset of the first field that
+//! breaks the format (`bad_field` of `specs/Format.antt`); [`decode_counted`] tells besides how many records its body
+//! is. An entry is its number, its moment, its author, its number among the author's, its kind and a body, which are
+//! the records of a batch, end to end, or the lines of a revision.
 //!
 //! What a body says is a function of its bytes: `revision_of` and `is_body` of `specs/Bodies.antt`, `batch_of`,
 //! `batch_fault`, `record_count` and `batch_rows` of `specs/Batches.antt`.
@@ -26,7 +26,7 @@ mod reading;
 #[cfg(test)]
 mod tests;
 
-pub use decoding::decode;
+pub use decoding::{decode, decode_counted};
 pub use encoding::encode;
 pub use entry::{Entry, Kind};
 pub use fault::EntryFault;

@@ -2,10 +2,11 @@
 ghost use Rattle.std.specs.Prelude.{◌≡◌, true, IfOk};
 ghost use Rattle.std.specs.Int.{w32, w64};
 ghost use Rattle.epochs.specs.Fields.{is_user_name};
+ghost use Rattle.archive_entry.specs.Bodies.{IsCounted};
 ghost use Rattle.archive_entry.specs.Format.{is_name_size, is_body_size};
 ghost use Rattle.archive_entry.specs.Reading.{Gives, number_at, name_of, name_at, kind_at, body_of, body_at, head_at, tail_at};
 
-use crate::bodies::is_body;
+use crate::bodies::records_of;
 use crate::entry::Kind;
 use crate::fault::Unread;
 use epochs::is_user_name;
@@ -101,22 +102,29 @@ fn bytes_of(alloc: Global, bytes: &[u8]) -> Result<Bytes, OutOfMemory>
     Ok(copy)
 }
 
-fn body_of(alloc: Global, kind: Kind, size: usize, rest: &[u8]) -> Result<(Bytes, &[u8]), Unread>
-    ensures { Gives (λ x. (x.0, x.1.now)) result (body_of kind size rest.now) }
+fn body_of(
+    alloc: Global,
+    kind: Kind,
+    size: usize,
+    rest: &[u8],
+) -> Result<((Bytes, usize), &[u8]), Unread>
+    ensures gives { Gives (λ x. (x.0.0, x.1.now)) result (body_of kind size rest.now) }
+    ensures counted { IfOk result (λ x. IsCounted kind x.0.0 x.0.1) }
 {
     if rest.len() < size {
         return Err(Unread::Bad(rest.len()));
     }
     let (body, behind) = rest.split_at(size);
-    if !is_body(alloc, kind, body)? {
+    let Some(records) = records_of(alloc, kind, body)? else {
         return Err(Unread::Bad(rest.len()));
-    }
-    Ok((bytes_of(alloc, body)?, behind))
+    };
+    Ok(((bytes_of(alloc, body)?, records), behind))
 }
 
 #[tactic(auto, unfolding(crate::specs::Reading::body_at))]
-fn body_at(alloc: Global, kind: Kind, bytes: &[u8]) -> Result<(Bytes, &[u8]), Unread>
-    ensures { Gives (λ x. (x.0, x.1.now)) result (body_at kind bytes.now) }
+fn body_at(alloc: Global, kind: Kind, bytes: &[u8]) -> Result<((Bytes, usize), &[u8]), Unread>
+    ensures gives { Gives (λ x. (x.0.0, x.1.now)) result (body_at kind bytes.now) }
+    ensures counted { IfOk result (λ x. IsCounted kind x.0.0 x.0.1) }
 {
     let (size, rest) = u32_at(bytes)?;
     if !is_body_size(size) {
@@ -155,12 +163,13 @@ pub fn head_at(alloc: Global, bytes: &[u8]) -> Result<(Head, &[u8]), Unread>
     Ok((head, rest))
 }
 
-/// The kind, the body and the bytes behind them.
+/// The kind, the body, how many records it has, and the bytes behind them.
 #[tactic(auto, unfolding(crate::specs::Reading::tail_at))]
-pub fn tail_at(alloc: Global, bytes: &[u8]) -> Result<((Kind, Bytes), &[u8]), Unread>
-    ensures { Gives (λ x. ((x.0.0, x.0.1), x.1.now)) result (tail_at bytes.now) }
+pub fn tail_at(alloc: Global, bytes: &[u8]) -> Result<((Kind, Bytes, usize), &[u8]), Unread>
+    ensures gives { Gives (λ x. ((x.0.0, x.0.1), x.1.now)) result (tail_at bytes.now) }
+    ensures counted { IfOk result (λ x. IsCounted x.0.0 x.0.1 x.0.2) }
 {
     let (kind, rest) = kind_at(bytes)?;
-    let (body, rest) = body_at(alloc, kind, rest)?;
-    Ok(((kind, body), rest))
+    let ((body, records), rest) = body_at(alloc, kind, rest)?;
+    Ok(((kind, body, records), rest))
 }

@@ -1,7 +1,7 @@
 //! Entries by hand, with ample memory.
 ghost use Rattle.std.specs.Prelude.{◌<◌, ◌+◌, ◌≤◌, length};
 
-use crate::{Entry, EntryFault, Kind, decode, encode};
+use crate::{Entry, EntryFault, Kind, decode, decode_counted, encode};
 use exact_time::Bytes;
 use std::alloc::Global;
 use std::test::Fail;
@@ -168,7 +168,8 @@ fn reads_and_writes_a_revision_and_a_batch(rt: HostRuntime) -> Result<(), Fail> 
     assert_eq!(rt; encode(alloc, &entry)?.as_slice(), payload.as_slice());
     let records = payload_of(alloc, &anmo_record(), &late_record())?;
     let payload = payload_of(alloc, &BATCH_FRONT, records.as_slice())?;
-    let entry = decode(alloc, payload.as_slice())?;
+    let (entry, count) = decode_counted(alloc, payload.as_slice())?;
+    assert_eq!(rt; count, 2);
     assert!(rt; is_by(&entry, 3, 1_706_745_600_000_000, "feed1", 1));
     assert_eq!(rt; entry.kind, Kind::Batch);
     assert_eq!(rt; entry.body.as_slice(), records.as_slice());

@@ -5,6 +5,7 @@ use Rattle.std.proofs.lemmas.Bool.{false≢true}
 use Rattle.exact_time.specs.Causes.{Rose}
 use Rattle.disk_model.specs.Disk.{Leaves}
 use Rattle.disk_model.specs.View.{DiskView, WhereTold, IsHonest, IsSynced, AlwaysLeaves}
+use Rattle.disk_model.specs.Effects.{OnlyReads}
 use Rattle.disk_model.proofs.Moments.{at_rest_now}
 use Rattle.archive_journal.specs.Frames.{magic, open_gate, body_of, reading_of, holding, front_of, IsSized, IsJournal, Holds, HoldsWithOrWithout}
 use Rattle.archive_journal.specs.Journal.{gates_from, payloads_in, first_payloads, HasGatesAt, IsJournalWithOrWithout, IsOnDisk, IsHalted, IsOpenJournal, Keeps, added_to}
@@ -150,6 +151,28 @@ module _ (view : DiskView) (faults : ℕ) (offsets : List ℕ) (end : ℕ) where
     later = later;
     cause = λ off. cause;
   }
+
+-- a journal whose disk was only read
+pub kept_read : (old new : DiskView) (faults : ℕ) (offsets : List ℕ) (end : ℕ) (stopped : Bool) (Failed : Type 0) → OnlyReads old new Failed
+    → IsOpenJournal old faults offsets end stopped → IsOpenJournal new faults offsets end stopped
+kept_read old new faults offsets end stopped Failed run is =
+    let payloads = λ (file : List ℕ). first_payloads (length offsets) file in
+    let read = λ (told : new.tells ≡ true). run.told (sym run.tells ∙ told) in record {
+      fits = is.fits;
+      settled = λ told on.
+          let was = is.settled (sym run.tells ∙ told) on in
+          let r = read told in record {
+            placed = subst (λ (file : List ℕ). HasGatesAt (payloads file) offsets end) (sym r.content) was.placed;
+            journal = subst (λ (file : List ℕ). IsJournal (payloads file) file) (sym r.content) was.journal;
+            synced = λ image now. was.synced image (r.crash image now) ∙ sym r.content;
+          };
+      halted = λ told off.
+          let r = read told in
+          subst (λ (file : List ℕ). IsHalted new (payloads file) offsets end) (sym r.content)
+          (let was = is.halted (sym run.tells ∙ told) off in record { placed = was.placed; hand = was.hand; either = λ image now. was.either image (r.crash image now) });
+      later = omega (arith, is.later, run.later);
+      cause = λ off. let rose = is.cause off in omega (arith, rose, run.later);
+    }
 
 -- a fault that the bytes have is the one that they say
 pub explains_recover : (file : List ℕ) (fault : RecoverFault) → Explains file fault → ExplainsRecover (reading_of file) fault

@@ -183,9 +183,21 @@ impl<D: Disk> Journal<D> {
         ensures payload { WhereTold (D.view self.old.disk) (IfOk result (λ bytes. slice_get self.old.payloads (n - 1) ≡ Some bytes)) }
         ensures read { WasRead D.view self.old self.new (IsErrOf result ReadFault.DiskFault) }
     {
+        let mut buffer = Vec::new(*self.offsets.allocator());
+        self.read_entry_into(n, &mut buffer)?;
+        Ok(Bytes::from_vec(buffer))
+    }
+
+    /// Reads payload `n`, from 1 to the number of payloads, into a buffer, in place of what that holds. A buffer that
+    /// serves for many payloads takes memory for the longest alone.
+    pub fn read_entry_into(&mut self, n: u64, buffer: &mut Vec<u8>) -> Result<(), ReadFault>
+        requires { (1 ≤ n) × (n ≤ self.old.count) }
+        ensures payload { WhereTold (D.view self.old.disk) (OnOk result (slice_get self.old.payloads (n - 1) ≡ Some buffer.new.items)) }
+        ensures read { WasRead D.view self.old self.new (IsErrOf result ReadFault.DiskFault) }
+    {
         let start = self.offset(n).saturating_add(HEAD);
         let len = self.end_of(n).saturating_sub(start) as usize;
-        read_bytes(*self.offsets.allocator(), &mut self.disk, start, len)
+        read_bytes(&mut self.disk, start, len, buffer)
     }
 
     // The offset of the gate behind payload `n`.
@@ -219,14 +231,18 @@ impl<D: Disk> Journal<D> {
 // The bytes of a frame before its payload.
 const HEAD: u64 = 5;
 
-// Reads so many bytes, or what there is of them.
-fn read_bytes<D: Disk>(alloc: Global, disk: &mut D, at: u64, len: usize) -> Result<Bytes, ReadFault>
-    ensures bytes { WhereTold (D.view disk.old) (IfOk result (λ bytes. bytes ≡ take len (drop at (D.view disk.old).content))) }
+// Reads so many bytes, or what there is of them, into a buffer, in place of what that holds.
+fn read_bytes<D: Disk>(
+    disk: &mut D,
+    at: u64,
+    len: usize,
+    buffer: &mut Vec<u8>,
+) -> Result<(), ReadFault>
+    ensures bytes { WhereTold (D.view disk.old) (OnOk result (buffer.new.items ≡ take len (drop at (D.view disk.old).content))) }
     ensures read { OnlyReads (D.view disk.old) (D.view disk.new) (IsErrOf result ReadFault.DiskFault) }
 {
-    let mut bytes = Bytes::new(alloc);
-    let mut buffer = vec![in alloc; 0; len]?;
-    let count = disk.read(at, &mut buffer)?;
-    bytes.extend(&buffer[..count])?;
-    Ok(bytes)
+    buffer.resize(len, 0)?;
+    let count = disk.read(at, buffer)?;
+    buffer.truncate(count);
+    Ok(())
 }

@@ -10,9 +10,10 @@ use Rattle.archive_journal.specs.Frames.{HoldsWithOrWithout}
 use Rattle.archive_journal.specs.Journal.{Opened, Keeps}
 use Rattle.archive_journal.specs.Journal as journal
 use Rattle.archive_entry.specs.Payload.{entry_of_payload}
-use Rattle.archive_entry.specs.Spelling.{IsEntry, spelling}
+use Rattle.archive_entry.specs.Spelling.{spelling}
 use Rattle.archive_entry.specs.declared.entry.Entry.{Entry}
 use Rattle.archive_state.specs.Lawful.{is_next}
+use Rattle.archive_state.proofs.NextEntry.{next_is_entry}
 use Rattle.archive_log.specs.Archive.{archived_as, IsInHand, Stands, WasRead, IsCommit, SpellHistory, IsArchive}
 use Rattle.archive_log.specs.Histories.{IsNextEntry, entries_of, RecoversWithOrWithout}
 use Rattle.archive_log.proofs.Spellings.{entries_of-push, spell_push, recovers, recovers_either}
@@ -57,12 +58,12 @@ module _ {D : Type 0} (view : D → DiskView) where
   }
 
   -- a commit, by what its journal's commit did
-  module _ (old new : Opened D) (hand : Option Entry) (e : Entry) (p : List ℕ) (entry : IsEntry e) (p-is : p ≡ spelling e) (is : IsArchive view old hand) (next : WhereTold (view old.disk) (is_next (entries_of old.payloads) e ≡ true)) where
+  module _ (old new : Opened D) (hand : Option Entry) (e : Entry) (p : List ℕ) (p-is : p ≡ spelling e) (is : IsArchive view old hand) (next : WhereTold (view old.disk) (is_next (entries_of old.payloads) e ≡ true)) where
     either : WhereTold (view old.disk) (Leaves (HoldsWithOrWithout old.payloads p) (RecoversWithOrWithout (entries_of old.payloads) e))
     either told = subst (λ (l : List ℕ). Leaves (HoldsWithOrWithout old.payloads l) (RecoversWithOrWithout (entries_of old.payloads) e)) (sym p-is) (recovers_either old.payloads e (is.spelled told))
 
     follows : WhereTold (view old.disk) (IsNextEntry (entries_of old.payloads) e)
-    follows told = record { is_entry = entry; next = next told }
+    follows told = record { is_entry = next_is_entry (entries_of old.payloads) e (is.spelled told).history.lawful (next told); next = next told }
 
     spelled_on : WhereTold (view old.disk) (new.payloads ≡ old.payloads ++ p ∷ [] → SpellHistory new.payloads)
     spelled_on told added =
@@ -84,7 +85,7 @@ module _ {D : Type 0} (view : D → DiskView) where
       told = λ told. let call = run.told told in record {
         any_moment = λ on. weakened (view old.disk) (view new.disk) (HoldsWithOrWithout old.payloads p) (RecoversWithOrWithout (entries_of old.payloads) e) (either told) (call.any_moment on);
         left = λ on image now. either told image (call.left on image now);
-        added = ap entries_of (call.added ∙ ap (λ (l : List ℕ). old.payloads ++ l ∷ []) p-is) ∙ entries_of-push old.payloads e entry;
+        added = ap entries_of (call.added ∙ ap (λ (l : List ℕ). old.payloads ++ l ∷ []) p-is) ∙ entries_of-push old.payloads e (follows told).is_entry;
         durable = λ image now. recovers new.payloads (spelled_on told call.added) image (call.durable image now);
         history = tt;
       };

@@ -1,5 +1,5 @@
 -- What a start finds, payload by payload.
-use Rattle.std.proofs.Common.{◌≡◌, ◌∙◌, ◌⊎◌, inl, inr, ℕ, ◌+◌, List, [], ◌∷◌, ◌++◌, length, take, true, false, Some, Ok, Err, slice_get, refl, sym, ap, subst, arith}
+use Rattle.std.proofs.Common.{◌≡◌, ◌∙◌, ◌⊎◌, inl, inr, ℕ, ◌+◌, ◌<◌, List, [], ◌∷◌, ◌++◌, length, take, true, false, Some, Ok, Err, slice_get, refl, sym, ap, subst, arith}
 use Rattle.std.specs.Prelude.{IsErrOf}
 use Rattle.std.proofs.lemmas.Bool.{true≢false}
 use Rattle.std.proofs.lemmas.List.{take_more}
@@ -14,16 +14,19 @@ use Rattle.archive_entry.specs.declared.fault.EntryFault.{EntryFault}
 use Rattle.archive_entry.specs.declared.fault.EntryFault.TheVariants as fault
 use Rattle.archive_entry.proofs.ReadBack.{entry_of_payload-spelling}
 use Rattle.archive_state.specs.Lawful.{is_next}
-use Rattle.archive_log.specs.Histories.{payloads_of}
-use Rattle.archive_log.specs.Opening.{SpellsNoNext, IsBadAt}
+use Rattle.archive_log.specs.Histories.{IsHistory, payloads_of}
+use Rattle.archive_log.specs.Opening.{SpellsNoNext, IsBadPayload, IsBadAt}
 use Rattle.archive_log.proofs.Spellings.{payloads_of-push}
 
 -- ---- one payload
 
 -- what can't be read spells no entry
-pub no_next_unread : (h : List Entry) (payload : List ℕ) (f : EntryFault) (at : ℕ) → f ≡ fault.Bad at → IsErrOf {T = Entry} (Err f) fault.OutOfMemory ⊎ IsOnly (Spells payload) (IsEntryFault payload) (Err f) → SpellsNoNext h payload
-no_next_unread h payload f at is (inl none) e spells = cc (is, none)
-no_next_unread h payload f at is (inr only) e spells = let both : Ok e ≡ Err f = only.only (Ok e) spells.spelled in cc (both)
+pub none_unread : {T : Type 0} (payload : List ℕ) (f : EntryFault) (at : ℕ) → f ≡ fault.Bad at → IsErrOf {T = T} (Err f) fault.OutOfMemory ⊎ IsOnly (Spells payload) (IsEntryFault payload) (Err f) → (e : Entry) → ¬ Spells payload e
+none_unread payload f at is (inl none) e spells = cc (is, none)
+none_unread payload f at is (inr only) e spells = let both : Ok e ≡ Err f = only.only (Ok e) spells in cc (both)
+
+pub no_next_unread : {T : Type 0} (h : List Entry) (payload : List ℕ) (f : EntryFault) (at : ℕ) → f ≡ fault.Bad at → IsErrOf {T = T} (Err f) fault.OutOfMemory ⊎ IsOnly (Spells payload) (IsEntryFault payload) (Err f) → SpellsNoNext h payload
+no_next_unread h payload f at is exact e next = none_unread payload f at is exact e next.spelled
 
 -- it spells this entry, and so no other
 pub no_next_other : (h : List Entry) (payload : List ℕ) (f : Entry) → Spells payload f → is_next h f ≡ false → SpellsNoNext h payload
@@ -37,6 +40,16 @@ no_next_other h payload f spells not e next =
 pub spell_more : (h : List Entry) (e : Entry) (payloads : List (List ℕ)) (n : ℕ) → payloads_of h ≡ take n payloads → slice_get payloads n ≡ Some (spelling e) → payloads_of (h ++ e ∷ []) ≡ take (n + 1) payloads
 spell_more h e payloads n are there =
     payloads_of-push h e ∙ (λ i. are i ++ sym (get_or_from_slice_get payloads n (spelling e) [] there) i ∷ []) ∙ sym (take_more payloads n [] (slice_get_within payloads n (spelling e) there))
+
+-- the payload behind those of a history is bad
+pub bad_behind : (h : List Entry) (payloads : List (List ℕ)) (n at : ℕ) → IsHistory h → n ≡ length h → payloads_of h ≡ take n payloads → n < length payloads → IsBadPayload h payloads (n + 1) at → IsBadAt payloads at
+bad_behind h payloads n at is n_is before there bad = record {
+  history = h;
+  is_history = is;
+  before = before ∙ ap (λ (k : ℕ). take k payloads) n_is;
+  bad = subst (λ (k : ℕ). IsBadPayload h payloads (k + 1) at) n_is bad;
+  there = inl (subst (λ (k : ℕ). k < length payloads) n_is there);
+}
 
 -- no payload
 pub no_entry : (payloads : List (List ℕ)) → length payloads ≡ 0 → (at : ℕ) → at ≡ 16 → IsBadAt payloads at

@@ -12,6 +12,8 @@ use Rattle.archive_state.specs.Admits.{IsAdmit}
 use Rattle.archive_state.specs.declared.admit.Admit.{Admit}
 use Rattle.archive_log.specs.Archive.{Archived}
 use Rattle.archive_log.specs.Histories.{IsHistory, SpellsNext, IsHistoryOf, payloads_of}
+use Rattle.archive_log.specs.declared.fault.EntryReadFault.{EntryReadFault}
+use Rattle.archive_log.specs.declared.fault.EntryReadFault.TheVariants as entry
 use Rattle.archive_log.specs.declared.fault.StartFault.{StartFault}
 use Rattle.archive_log.specs.declared.fault.StartFault.TheVariants.{DiskFault, NotAJournal, Damaged, OutOfMemory}
 
@@ -63,6 +65,10 @@ ExplainsStart file fault = HasFaultOr ⊤ file fault
 abbrev pub from_read : ReadFault → StartFault
 from_read read.DiskFault = DiskFault
 from_read read.OutOfMemory = OutOfMemory
+
+abbrev pub told_of_read : ReadFault → EntryReadFault
+told_of_read read.DiskFault = entry.DiskFault
+told_of_read read.OutOfMemory = entry.OutOfMemory
 
 abbrev pub from_recover : RecoverFault → StartFault
 from_recover recover.DiskFault = DiskFault

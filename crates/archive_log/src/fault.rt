@@ -1,4 +1,4 @@
-//! Why an archive isn't opened, or isn't founded.
+//! Why an archive isn't opened or founded, and why an entry isn't read.
 ghost use Rattle.std.specs.Prelude.{◌≡◌};
 ghost use Rattle.archive_log.specs.declared.fault.StartFault.TheVariants.{OutOfMemory as no_memory};
 
@@ -102,6 +102,42 @@ impl From<InitFault> for FoundFault {
         match fault {
             InitFault::DiskFault => FoundFault::DiskFault,
             InitFault::NotEmpty(length) => FoundFault::NotEmpty(length),
+        }
+    }
+}
+
+/// Why an entry wasn't read.
+#[derive(Clone, Copy, Debug, PartialEq, Eq)]
+pub enum EntryReadFault {
+    /// The disk failed.
+    DiskFault,
+    /// What is read spells no entry: the file was changed by others. A disk that tells what it holds gives the entry.
+    NotAnEntry,
+    /// Memory ran out.
+    OutOfMemory,
+}
+
+impl fmt::Display for EntryReadFault {
+    fn fmt<W: fmt::Write>(&self, f: &mut fmt::Formatter<W>) -> fmt::Result {
+        match self {
+            EntryReadFault::DiskFault => f.write_str("the disk failed"),
+            EntryReadFault::NotAnEntry => f.write_str("not an entry"),
+            EntryReadFault::OutOfMemory => f.write_str("out of memory"),
+        }
+    }
+}
+
+impl Error for EntryReadFault {}
+
+impl From<ReadFault> for EntryReadFault {
+    ghost use Rattle.archive_log.specs.Opening.{told_of_read};
+
+    ghost from_gives = { λ fault told. told ≡ told_of_read fault };
+
+    fn from(fault: ReadFault) -> EntryReadFault {
+        match fault {
+            ReadFault::DiskFault => EntryReadFault::DiskFault,
+            ReadFault::OutOfMemory => EntryReadFault::OutOfMemory,
         }
     }
 }

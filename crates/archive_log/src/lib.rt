@@ -22,8 +22,10 @@ mod founding;
 mod law;
 mod opening;
 #[cfg(test)]
+mod real_file;
+#[cfg(test)]
 mod tests;
 
 pub use archive::Archive;
-pub use fault::{FoundFault, StartFault};
+pub use fault::{EntryReadFault, FoundFault, StartFault};
 pub use law::a_file_opens_in_one_way;

@@ -1,18 +1,18 @@
 //! Opens an archive from a disk, by reading alone.
-ghost use Rattle.std.specs.Prelude.{ℕ, List, ◌≡◌, ◌≢◌, ◌-◌, ◌≤◌, false, None, Some, length, slice_get, IfOk, IfErr, IfSome, IsErrOf, MatchOption};
+ghost use Rattle.std.specs.Prelude.{ℕ, List, ◌≡◌, ◌≢◌, ◌++◌, ◌∷◌, [], ◌-◌, ◌≤◌, false, None, Some, length, slice_get, IfOk, IfErr, IfSome, IsErrOf, MatchOption};
 ghost use Rattle.disk_model.specs.View.{WhereTold};
 ghost use Rattle.disk_model.specs.Effects.{OnlyReads, WritesNothing};
 ghost use Rattle.archive_journal.specs.Journal.{WasRead};
 ghost use Rattle.archive_entry.specs.Spelling.{Spells, spelling};
 ghost use Rattle.archive_entry.specs.declared.entry.Entry.{Entry};
-ghost use Rattle.archive_state.specs.Admits.{IsAdmit};
+ghost use Rattle.archive_state.specs.Admits.{IsAdmit, StandsForSome};
 ghost use Rattle.archive_log.specs.Archive.{archived_as};
 ghost use Rattle.archive_log.specs.Histories.{IsHistory, IsNextEntry, SpellsNext, IsHistoryOf, payloads_of};
 ghost use Rattle.archive_log.specs.Opening.{SpellsNoNext, IsBadPayload, IsBadAt, ExplainsStart, IsStarted, IsSyncedUnlessFailed, disk_of, outcome_of};
 
 use crate::archive::Archive;
 use crate::fault::StartFault;
-use archive_entry::{Entry, EntryFault, decode};
+use archive_entry::{Entry, EntryFault, decode_counted};
 use archive_journal::Journal;
 use archive_state::Admit;
 use disk_model::Disk;
@@ -100,49 +100,55 @@ fn read_all<D: Disk>(
     }
     let mut entries = Many::new(alloc);
     let mut admit = Admit::new(alloc);
+    let mut buffer = Vec::new(alloc);
     'entries: for n in 0..count {
-        let entry = read_next(alloc, journal, &admit, n + 1)?;
-        admit.note(&entry)?;
+        let entry = read_next(alloc, journal, &mut admit, &mut buffer, n + 1)?;
         entries.push(entry)?;
     }
     Ok((entries, admit))
 }
 
-// Reads payload n, which is to spell the entry that comes next.
+// Reads payload n into the buffer: it is to spell the entry that comes next, which is taken in.
 fn read_next<D: Disk>(
     alloc: Global,
     journal: &mut Journal<D>,
-    admit: &Admit,
+    admit: &mut Admit,
+    buffer: &mut Vec<u8>,
     n: u64,
 ) -> Result<Entry, StartFault>
-    requires { (1 ≤ n) × (n ≤ journal.old.count) }
+    requires number { (1 ≤ n) × (n ≤ journal.old.count) }
+    requires stands { StandsForSome admit.old }
     ensures read { WasRead D.view journal.old journal.new (IsErrOf result StartFault.DiskFault) }
-    ensures next { (h : List Entry) → IsAdmit admit.now h → IfOk result (IsNextEntry h) }
+    ensures next { (h : List Entry) → IsAdmit admit.old h → IfOk result (IsNextEntry h) }
+    ensures taken { (h : List Entry) → IsAdmit admit.old h → IfOk result (λ entry. IsAdmit admit.new (h ++ entry ∷ [])) }
     ensures spelled { WhereTold (D.view journal.old.disk) (IfOk result (λ entry. slice_get journal.old.payloads (n - 1) ≡ Some (spelling entry))) }
-    ensures damaged { (h : List Entry) → IsAdmit admit.now h → WhereTold (D.view journal.old.disk)
+    ensures damaged { (h : List Entry) → IsAdmit admit.old h → WhereTold (D.view journal.old.disk)
         (IfErr result (λ fault. (at : ℕ) → fault ≡ StartFault.Damaged at → IsBadPayload h journal.old.payloads n at)) }
     ensures whole { IfErr result (λ fault. fault ≢ StartFault.NotAJournal) }
 {
-    let payload = journal.read_entry(n)?;
+    journal.read_entry_into(n, buffer)?;
     let at = journal.offset(n);
-    match next_in(alloc, admit, payload.as_slice())? {
+    match next_in(alloc, admit, buffer.as_slice())? {
         Some(entry) => Ok(entry),
         None => Err(StartFault::Damaged(at)),
     }
 }
 
-// The entry that a payload spells, if it is the one that comes next.
-fn next_in(alloc: Global, admit: &Admit, payload: &[u8]) -> Result<Option<Entry>, OutOfMemory>
+// The entry that a payload spells, if it is the one that comes next, and takes it in.
+fn next_in(alloc: Global, admit: &mut Admit, payload: &[u8]) -> Result<Option<Entry>, OutOfMemory>
+    requires { StandsForSome admit.old }
     ensures entry { IfOk result (λ found. IfSome found (Spells payload.now)) }
-    ensures next { (h : List Entry) → IsAdmit admit.now h
+    ensures next { (h : List Entry) → IsAdmit admit.old h
         → IfOk result (λ found. MatchOption found (SpellsNoNext h payload.now) (SpellsNext h payload.now)) }
+    ensures taken { (h : List Entry) → IsAdmit admit.old h
+        → IfOk result (λ found. IfSome found (λ entry. IsAdmit admit.new (h ++ entry ∷ []))) }
 {
-    let entry = match decode(alloc, payload) {
-        Ok(entry) => entry,
+    let (entry, records) = match decode_counted(alloc, payload) {
+        Ok(read) => read,
         Err(EntryFault::Bad { .. }) => return Ok(None),
         Err(EntryFault::OutOfMemory) => return Err(OutOfMemory),
     };
-    if admit.next_lawful(&entry)? {
+    if admit.note_next(&entry, records)? {
         Ok(Some(entry))
     } else {
         Ok(None)

@@ -114,7 +114,7 @@ later_follows past e is =
     let fit = and_parts (nat_le 1 e.seq && nat_le e.seq 1_000_000_000_000_000_000) (nat_le (length e.body) 1_048_576 && is_clock_moment e.moment) parts.1 in
     record { some = from_one e.seq (and_parts (nat_le 1 e.seq) (nat_le e.seq 1_000_000_000_000_000_000) fit.0).0; none = says.none; follows = says.follows }
 
-first_seq : (e : Entry) → is_founding e ≡ true → (e.number ≡ 1) × (e.seq ≡ 0)
+pub first_seq : (e : Entry) → is_founding e ≡ true → (e.number ≡ 1) × (e.seq ≡ 0)
 first_seq e is =
     let b = and_parts (is_first e) (founds e.author e.body) is in
     let c = and_parts (e.number == 1 && e.seq == 0) (int_eq e.moment.micros (pos 0) && is_kind e.kind Revise) b.0 in

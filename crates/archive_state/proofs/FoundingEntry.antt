@@ -1,16 +1,12 @@
--- The founding entry of an operator comes first in a history, and has a spelling.
+-- The founding entry of an operator comes first in a history.
 use Rattle.std.proofs.Common.{◌≡◌, ◌∙◌, ◌&&◌, ◌==◌, ℕ, ◌+◌, ◌≤◌, ◌<◌, ◌^◌, true, false, Bool, List, [], ◌∷◌, ◌++◌, length, take, drop, pos, refl, sym, ap, subst, arith, codes, append_assoc, length-append}
 use Rattle.std.specs.Str.{bytes_eq}
 use Rattle.std.proofs.lemmas.Bool.Decides.{nat_tests}
-use Rattle.std.proofs.lemmas.Int.{ints}
 use Rattle.std.proofs.lemmas.Slice.Eq.{bytes_eq-Decides}
 use Rattle.epochs.specs.Kinds.{Text}
 use Rattle.epochs.specs.Fields.{is_user_name, is_ha1}
-use Rattle.archive_entry.specs.Bodies.{is_body, has_lines}
-use Rattle.archive_entry.specs.Spelling.{IsEntry}
-use Rattle.archive_entry.specs.declared.entry.Kind.TheVariants.{Revise}
 use Rattle.archive_state.specs.Lawful.{founding_body, ha1_behind, founding_entry, is_founding, is_next}
-use Rattle.archive_state.proofs.Founding.{founding_revision, founding_length, ha1_parts}
+use Rattle.archive_state.proofs.Founding.{ha1_parts}
 
 take_front : (xs ys : Text) → take (length xs) (xs ++ ys) ≡ xs
 take_front [] ys = refl
@@ -50,15 +46,3 @@ module _ (name ha1 : Text) (name_is : is_user_name name ≡ true) (ha1_is : is_h
   pub founding_next : is_next [] (founding_entry name ha1) ≡ true
   unfolding is_next
   founding_next = founds_is
-
-  pub founding_spelled : IsEntry (founding_entry name ha1)
-  founding_spelled =
-      let size = founding_length name ha1 name_is ha1_is in record {
-        number = omega arith;
-        moment = omega (arith, ints);
-        author = name_is;
-        seq = omega arith;
-        some = size.0;
-        within = omega (arith, size.1);
-        reads = ap has_lines (founding_revision name ha1 name_is ha1_is);
-      }

@@ -1,10 +1,13 @@
 pub mod Absorbs
 pub mod Accepts
+pub mod AuthorNames
 pub mod Checks
+pub mod Counted
 pub mod Examples
 pub mod Founding
 pub mod FoundingEntry
 pub mod Growth
+pub mod NextEntry
 pub mod Numbers
 pub mod Once
 pub mod OneSaying

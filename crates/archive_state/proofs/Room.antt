@@ -84,7 +84,7 @@ founding_kind e is =
     let c = and_parts (e.number == 1 && e.seq == 0) (int_eq e.moment.micros (pos 0) && is_kind e.kind Revise) b.0 in
     kind_is e.kind (and_parts (int_eq e.moment.micros (pos 0)) (is_kind e.kind Revise) c.1).1
 
-founding_founds : (e : Entry) → is_founding e ≡ true → founds e.author e.body ≡ true
+pub founding_founds : (e : Entry) → is_founding e ≡ true → founds e.author e.body ≡ true
 founding_founds e is = (and_parts (is_first e) (founds e.author e.body) is).1
 
 first_kept : (e : Entry) → is_founding e ≡ true → AreKept [] (lines_of e)

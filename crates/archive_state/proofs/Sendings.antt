@@ -155,7 +155,7 @@ taken_length (x ∷ h) zero e at = refl
 taken_length (x ∷ h) (suc n) e at = ap suc (taken_length h n e at)
 
 -- an entry's number is its place, from 1
-number_at : (h : List Entry) (n : ℕ) (e : Entry) → is_lawful h ≡ true → slice_get h n ≡ Some e → e.number ≡ n + 1
+pub number_at : (h : List Entry) (n : ℕ) (e : Entry) → is_lawful h ≡ true → slice_get h n ≡ Some e → e.number ≡ n + 1
 number_at h n e lawful at = next_number (take n h) e ((lawful_by_each h).0 lawful n e at) ∙ ap (λ (k : ℕ). k + 1) (taken_length h n e at)
 
 pub one_place : (h : List Entry) (i j : ℕ) (e d : Entry) → is_lawful h ≡ true → slice_get h i ≡ Some e → slice_get h j ≡ Some d → 1 ≤ e.seq → e.author ≡ d.author → e.seq ≡ d.seq → i ≡ j

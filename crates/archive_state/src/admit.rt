@@ -1,16 +1,17 @@
 //! What judges the next command.
-ghost use Rattle.std.specs.Prelude.{◌≡◌, ◌≤◌, ◌++◌, [], ◌∷◌, true, List, ◌+◌, ◌&&◌, length, None, option_map, if◌then◌else◌, IfOk, OnOk, OnErr};
+ghost use Rattle.std.specs.Prelude.{◌≡◌, ◌≤◌, ◌++◌, [], ◌∷◌, true, List, ◌+◌, ◌&&◌, length, None, option_map, if◌then◌else◌, IfOk, IfSome, OnOk, OnErr};
 ghost use Rattle.std.specs.Str.{bytes_eq};
 ghost use Rattle.epochs.specs.Kinds.{Text};
+ghost use Rattle.archive_entry.specs.Bodies.{IsCounted};
 ghost use Rattle.archive_entry.specs.declared.entry.Entry.{Entry};
-ghost use Rattle.archive_state.specs.Admits.{IsAdmit, IsNextOf, IsEarlierEntry, number_of};
+ghost use Rattle.archive_state.specs.Admits.{IsAdmit, IsNextOf, IsEarlierEntry, StandsForSome, number_of};
 ghost use Rattle.archive_state.specs.Authors.{numbers_in, has_room, with_entry};
 ghost use Rattle.archive_state.specs.History.{earlier_of, live_of};
 ghost use Rattle.archive_state.specs.Lawful.{is_later, is_next, full};
 ghost use Rattle.archive_state.specs.Verdicts.{command, totals, is_kind, beside, judged, judged_of, verdict_of};
 
 use crate::authors::{Authors, last_of, make_room, number_at, put_number};
-use crate::judging::{Sums, body_verdict, may_post};
+use crate::judging::{Sums, body_verdict, may_post, records_in};
 use crate::limits::Limits;
 use crate::lines::take_lines;
 use crate::opening::{is_accept, is_fit, is_founding};
@@ -42,6 +43,8 @@ struct Draft<'a> {
     seq: u64,
     kind: Kind,
     body: &'a [u8],
+    // How many records the body has, where that is known.
+    known: Option<usize>,
 }
 
 fn is_same_kind(a: Kind, b: Kind) -> bool
@@ -116,6 +119,7 @@ impl Admit {
 
     // The verdict on a command whose sequence number the author hasn't used.
     fn unknown(&self, draft: &Draft<'_>, limits: &Limits) -> Result<Verdict, OutOfMemory>
+        requires { IfSome draft.now.known (IsCounted draft.now.kind draft.now.body.now) }
         ensures { IfOk result (λ v. v ≡ beside (totals self.now.catalog self.now.sums.count self.now.sums.records self.now.sums.bytes) limits.now (command draft.now.author.now draft.now.seq draft.now.kind draft.now.body.now) None (length (numbers_in self.now.authors draft.now.author.now))) }
     {
         let last = last_of(&self.authors, draft.author);
@@ -129,6 +133,7 @@ impl Admit {
             limits,
             draft.kind,
             draft.body,
+            draft.known,
         )
     }
 
@@ -138,6 +143,7 @@ impl Admit {
         earlier: Option<&Entry>,
         limits: &Limits,
     ) -> Result<Verdict, OutOfMemory>
+        requires { IfSome draft.now.known (IsCounted draft.now.kind draft.now.body.now) }
         ensures { IfOk result (λ v. v ≡ judged (totals self.now.catalog self.now.sums.count self.now.sums.records self.now.sums.bytes) limits.now (command draft.now.author.now draft.now.seq draft.now.kind draft.now.body.now) (option_map (λ e. e.now) earlier.entry) (length (numbers_in self.now.authors draft.now.author.now))) }
     {
         if !may_post(&self.catalog, draft.author, draft.kind) {
@@ -157,6 +163,7 @@ impl Admit {
         earlier: Option<&Entry>,
         limits: &Limits,
     ) -> Result<Verdict, OutOfMemory>
+        requires { IfSome draft.now.known (IsCounted draft.now.kind draft.now.body.now) }
         ensures { IfOk result (λ v. (h : List Entry) → IsAdmit self.now h → option_map (λ e. e.now) earlier.entry ≡ earlier_of h draft.now.author.now draft.now.seq → v ≡ judged_of h limits.now (command draft.now.author.now draft.now.seq draft.now.kind draft.now.body.now)) }
     {
         self.judged(draft, earlier, limits)
@@ -188,6 +195,7 @@ impl Admit {
                     seq: posted.seq,
                     kind: posted.kind,
                     body: posted.body.as_slice(),
+                    known: None,
                 };
                 self.judge_draft(&draft, earlier, limits)
             }
@@ -196,8 +204,10 @@ impl Admit {
         }
     }
 
-    // Whether an entry is a later one, next after the history that this stands for.
-    fn is_later(&self, entry: &Entry) -> Result<bool, OutOfMemory>
+    // Whether an entry is a later one, next after the history that this stands for. How many records it has may be
+    // known.
+    fn is_later(&self, entry: &Entry, known: Option<usize>) -> Result<bool, OutOfMemory>
+        requires { IfSome known (IsCounted entry.now.kind entry.now.body) }
         ensures { IfOk result (λ is. (h : List Entry) → IsAdmit self.now h → is ≡ is_later h entry.now) }
     {
         if entry.number != self.sums.count + 1 {
@@ -211,6 +221,7 @@ impl Admit {
             seq: entry.seq,
             kind: entry.kind,
             body: entry.body.as_slice(),
+            known,
         };
         if let Some(_number) = self.earlier(draft.author, draft.seq) {
             return Ok(false);
@@ -219,15 +230,38 @@ impl Admit {
         Ok(is_accept(&verdict))
     }
 
-    /// Whether the entry is the next one of the history that this stands for, which is then lawful with this entry at
-    /// its end, if it is lawful itself.
-    pub fn next_lawful(&self, entry: &Entry) -> Result<bool, OutOfMemory>
+    // Whether the entry is the next one. How many records it has may be known.
+    fn is_next(&self, entry: &Entry, known: Option<usize>) -> Result<bool, OutOfMemory>
+        requires { IfSome known (IsCounted entry.now.kind entry.now.body) }
         ensures { IfOk result (λ is. (h : List Entry) → IsAdmit self.now h → is ≡ is_next h entry.now) }
     {
         if self.sums.count == 0 {
             return is_founding(self.alloc, entry);
         }
-        self.is_later(entry)
+        self.is_later(entry, known)
+    }
+
+    /// Whether the entry is the next one of the history that this stands for, which is then lawful with this entry at
+    /// its end, if it is lawful itself.
+    pub fn next_lawful(&self, entry: &Entry) -> Result<bool, OutOfMemory>
+        ensures { IfOk result (λ is. (h : List Entry) → IsAdmit self.now h → is ≡ is_next h entry.now) }
+    {
+        self.is_next(entry, None)
+    }
+
+    // Takes in the next entry, which has so many records. Where memory is missing, nothing changes.
+    fn take_in(&mut self, entry: &Entry, records: usize) -> Result<(), OutOfMemory>
+        requires next { IsNextOf self.old entry.now }
+        requires counted { IsCounted entry.now.kind entry.now.body records }
+        ensures ok { OnOk result ((h : List Entry) → IsAdmit self.old h → is_next h entry.now ≡ true → IsAdmit self.new (h ++ entry.now ∷ [])) }
+        ensures err { OnErr result ((h : List Entry) → IsAdmit self.old h → IsAdmit self.new h) }
+    {
+        let sums = self.sums.with_entry(entry, records);
+        make_room(self.alloc, &mut self.authors, entry.author.as_slice())?;
+        take_lines(self.alloc, &mut self.catalog, entry)?;
+        put_entry(&mut self.authors, entry);
+        self.sums = sums;
+        Ok(())
     }
 
     /// Takes in the next entry. Where memory is missing, nothing changes.
@@ -236,11 +270,24 @@ impl Admit {
         ensures ok { OnOk result ((h : List Entry) → IsAdmit self.old h → is_next h entry.now ≡ true → IsAdmit self.new (h ++ entry.now ∷ [])) }
         ensures err { OnErr result ((h : List Entry) → IsAdmit self.old h → IsAdmit self.new h) }
     {
-        let sums = self.sums.with_entry(entry);
-        make_room(self.alloc, &mut self.authors, entry.author.as_slice())?;
-        take_lines(self.alloc, &mut self.catalog, entry)?;
-        put_entry(&mut self.authors, entry);
-        self.sums = sums;
-        Ok(())
+        let records = records_in(entry.kind, entry.body.as_slice());
+        self.take_in(entry, records)
+    }
+
+    /// Whether the entry, which has so many records, is the next one, and takes it in if it is: `next_lawful` and `note`
+    /// without a walk over the records, which `decode_counted` counted. Else, and where memory is missing, nothing
+    /// changes.
+    pub fn note_next(&mut self, entry: &Entry, records: usize) -> Result<bool, OutOfMemory>
+        requires stands { StandsForSome self.old }
+        requires counted { IsCounted entry.now.kind entry.now.body records }
+        ensures next { IfOk result (λ is. (h : List Entry) → IsAdmit self.old h → is ≡ is_next h entry.now) }
+        ensures taken { IfOk result (λ is. (h : List Entry) → IsAdmit self.old h → IsAdmit self.new (if is then h ++ entry.now ∷ [] else h)) }
+        ensures err { OnErr result ((h : List Entry) → IsAdmit self.old h → IsAdmit self.new h) }
+    {
+        if !self.is_next(entry, Some(records))? {
+            return Ok(false);
+        }
+        self.take_in(entry, records)?;
+        Ok(true)
     }
 }

@@ -1,10 +1,10 @@
 //! The verdict on a body.
-ghost use Rattle.std.specs.Prelude.{◌≡◌, ◌+◌, ◌<◌, ◌≤◌, ◌^◌, length, IfOk, IfSome, find, map};
+ghost use Rattle.std.specs.Prelude.{◌≡◌, true, ◌+◌, ◌<◌, ◌≤◌, ◌^◌, length, IfOk, IfSome, find, map};
 ghost use Rattle.epochs.specs.Views.{values_of_line};
 ghost use Rattle.epoch_rules.specs.Catalog.{is_user};
 ghost use Rattle.epoch_rules.specs.Kept.{first_broken};
 ghost use Rattle.archive_entry.specs.Batches.{batch_of};
-ghost use Rattle.archive_entry.specs.Bodies.{revision_of};
+ghost use Rattle.archive_entry.specs.Bodies.{IsCounted, is_body, revision_of};
 ghost use Rattle.archive_state.specs.History.{roles_in, may_post, records_by};
 ghost use Rattle.archive_state.specs.Verdicts.{totals, within_bytes, within_records, batch_verdict, kept_verdict, revise_verdict, body_verdict};
 
@@ -53,8 +53,9 @@ pub struct Sums {
 }
 
 impl Sums {
-    /// With one entry more, which has a body that an archive can still take.
-    pub fn with_entry(&self, entry: &Entry) -> Sums
+    /// With one entry more, which has so many records, and a body that an archive can still take.
+    pub fn with_entry(&self, entry: &Entry, records: usize) -> Sums
+        requires counted { IsCounted entry.now.kind entry.now.body records }
         requires some { 1 ≤ length entry.now.body }
         requires room { self.now.bytes + length entry.now.body ≤ 536_870_912 }
         ensures count { result.count ≡ self.now.count + 1 }
@@ -64,7 +65,7 @@ impl Sums {
         let body = entry.body.as_slice();
         Sums {
             count: self.count + 1,
-            records: self.records + records_in(entry.kind, body) as u64,
+            records: self.records + records as u64,
             bytes: self.bytes + body.len() as u64,
         }
     }
@@ -105,10 +106,22 @@ fn batch_of(body: &[u8]) -> Result<usize, (usize, RecordFault)>
     count_records(body)
 }
 
-// How many records a body of a kind has.
-fn records_in(kind: Kind, body: &[u8]) -> usize
-    ensures value { result ≡ records_by kind body.now }
-    ensures few { result ≤ length body.now }
+// The same, where it may be known how many records there are.
+fn batch_known(body: &[u8], known: Option<usize>) -> Result<usize, (usize, RecordFault)>
+    requires { IfSome known (IsCounted Kind.Batch body.now) }
+    ensures value { result ≡ batch_of body.now }
+    ensures few { IfOk result (λ count. count ≤ length body.now) }
+{
+    match known {
+        Some(count) => Ok(count),
+        None => batch_of(body),
+    }
+}
+
+/// How many records a body of a kind has, of which none is refused.
+pub fn records_in(kind: Kind, body: &[u8]) -> usize
+    requires { is_body kind body.now ≡ true }
+    ensures { IsCounted kind body.now result }
 {
     match kind {
         Kind::Batch => match batch_of(body) {
@@ -119,7 +132,14 @@ fn records_in(kind: Kind, body: &[u8]) -> usize
     }
 }
 
-fn batch_verdict(catalog: &Catalog, sums: &Sums, limits: &Limits, body: &[u8]) -> Verdict
+fn batch_verdict(
+    catalog: &Catalog,
+    sums: &Sums,
+    limits: &Limits,
+    body: &[u8],
+    known: Option<usize>,
+) -> Verdict
+    requires { IfSome known (IsCounted Kind.Batch body.now) }
     ensures { result ≡ body_verdict (totals catalog.now sums.now.count sums.now.records sums.now.bytes) limits.now Kind.Batch body.now }
 {
     if body.is_empty() {
@@ -128,7 +148,7 @@ fn batch_verdict(catalog: &Catalog, sums: &Sums, limits: &Limits, body: &[u8]) -
             fault: RecordFault::Short,
         };
     }
-    match batch_of(body) {
+    match batch_known(body, known) {
         Ok(more) => within_records(catalog, sums, limits, body, more),
         Err((at, fault)) => Verdict::BadRecord { at, fault },
     }
@@ -184,7 +204,8 @@ fn revise_verdict(
     }
 }
 
-/// The verdict on a body of a kind, of an author who may post it with that sequence number.
+/// The verdict on a body of a kind, of an author who may post it with that sequence number. How many records it has may
+/// be known.
 pub fn body_verdict(
     alloc: Global,
     catalog: &Catalog,
@@ -192,11 +213,13 @@ pub fn body_verdict(
     limits: &Limits,
     kind: Kind,
     body: &[u8],
+    known: Option<usize>,
 ) -> Result<Verdict, OutOfMemory>
+    requires { IfSome known (IsCounted kind body.now) }
     ensures { IfOk result (λ v. v ≡ body_verdict (totals catalog.now sums.now.count sums.now.records sums.now.bytes) limits.now kind body.now) }
 {
     match kind {
-        Kind::Batch => Ok(batch_verdict(catalog, sums, limits, body)),
+        Kind::Batch => Ok(batch_verdict(catalog, sums, limits, body, known)),
         Kind::Revise => revise_verdict(alloc, catalog, sums, limits, body),
     }
 }

@@ -8,11 +8,11 @@ ghost use Rattle.epochs.specs.Kinds.{Text};
 ghost use Rattle.archive_entry.specs.Spelling.{IsEntry};
 ghost use Rattle.archive_entry.specs.declared.entry.Entry.{Entry};
 ghost use Rattle.archive_state.specs.History.{live_of, may_post};
-ghost use Rattle.archive_state.specs.Lawful.{founding_entry, is_lawful, is_next};
+ghost use Rattle.archive_state.specs.Lawful.{founding_entry, is_accept, is_lawful, is_next};
 ghost use Rattle.archive_state.specs.Sendings.{Sending, can_be_sent, after_all};
 ghost use Rattle.archive_state.specs.States.{CanAbsorb};
 ghost use Rattle.archive_state.specs.VerdictLaw.{Says};
-ghost use Rattle.archive_state.specs.Verdicts.{Command, command_of, is_kind, judged_of};
+ghost use Rattle.archive_state.specs.Verdicts.{Command, command_of, entry_of, is_kind, judged_of};
 ghost use Rattle.archive_state.specs.declared.limits.Limits.{Limits};
 ghost use Rattle.archive_state.specs.declared.verdict.Verdict.{Verdict};
 ghost use Rattle.archive_state.specs.declared.verdict.Verdict.TheVariants.{Accept, OtherBody, Repeat, Role};
@@ -57,10 +57,17 @@ pub fn the_next_entry_can_be_absorbed()
     ensures { (h : List Entry) (e : Entry) → is_lawful h ≡ true → is_next h e ≡ true → CanAbsorb h e }
 {}
 
-/// The founding entry of an operator comes first in a history, and has a spelling.
+/// The founding entry of an operator comes first in a history.
 pub fn a_founding_entry_comes_first()
-    ensures first { (name ha1 : Text) → is_user_name name ≡ true → is_ha1 ha1 ≡ true → is_next [] (founding_entry name ha1) ≡ true }
-    ensures spelled { (name ha1 : Text) → is_user_name name ≡ true → is_ha1 ha1 ≡ true → IsEntry (founding_entry name ha1) }
+    ensures { (name ha1 : Text) → is_user_name name ≡ true → is_ha1 ha1 ≡ true → is_next [] (founding_entry name ha1) ≡ true }
+{}
+
+/// The next entry of a lawful history has a spelling: its numbers and its moment fit, its author has a user's name, and
+/// its body has from 1 to 1,048,576 bytes and reads by its kind. So has the entry of an accepted command.
+pub fn the_next_entry_has_a_spelling()
+    ensures next { (h : List Entry) (e : Entry) → is_lawful h ≡ true → is_next h e ≡ true → IsEntry e }
+    ensures accepted { (h : List Entry) (limits : Limits) (s : Sending) → is_lawful h ≡ true → can_be_sent s ≡ true
+        → is_accept (judged_of h limits s.command) ≡ true → IsEntry (entry_of h s.command s.moment) }
 {}
 
 /// Each verdict says what its name says, in the words of the subject: of the author's role and entries, of the records

@@ -8,8 +8,9 @@
 //! bytes, and each author's entries.
 //!
 //! The laws are in `src/law.rt`: an accepted command gets the next number; a history with one entry more is lawful
-//! exactly where the history is and the entry is the next one; a command that was accepted once is answered by its
-//! number from then on, and whatever is sent keeps a history lawful; each verdict says what its name says.
+//! exactly where the history is and the entry is the next one, which has a spelling; a command that was accepted once
+//! is answered by its number from then on, and whatever is sent keeps a history lawful; each verdict says what its name
+//! says.
 #![tactic(auto)]
 
 mod admit;
@@ -30,7 +31,7 @@ pub use admit::Admit;
 pub use law::{
     a_command_acts_once, a_founding_entry_comes_first, a_history_goes_on_with_its_next_entry,
     an_accepted_command_gets_the_next_number, commands_keep_a_history_lawful,
-    the_next_entry_can_be_absorbed, verdicts_in_the_subjects_words,
+    the_next_entry_can_be_absorbed, the_next_entry_has_a_spelling, verdicts_in_the_subjects_words,
 };
 pub use limits::Limits;
 pub use opening::{founding_body, founding_entry};
