@@ -169,7 +169,9 @@ fn arguments_in(words: &[String]) -> Option<SelectArguments<'_>>
     else {
         return None;
     };
-    if !is_select(command.as_str()) || !are_positions(&words[1..7]) || !are_options(CommandName::Select, options)
+    if !is_select(command.as_str())
+        || !are_positions(&words[1..7])
+        || !are_options(CommandName::Select, options)
     {
         return None;
     }

@@ -114,11 +114,10 @@ like x r = is_same_name x.header.name r.header.name && is_eq (kind_cmp (kind_of 
 -- each row is one of the rows
 all_there : (rows : List Row) → AllByRecursion (λ row. list_any (like row) rows ≡ true) rows
 all_there [] = tt
-all_there (row ∷ rows) =
-    (
-      or_left (like row row) (list_any (like row) rows) (and_from (is_same_name row.header.name row.header.name) (is_eq (kind_cmp (kind_of row) (kind_of row))) (same_name_of row.header.name row.header.name refl) (ap is_eq (tied_itself kinds_total (kind_of row)))),
-      all_weaker (λ (x : Row). list_any (like x) rows ≡ true) (λ (x : Row). list_any (like x) (row ∷ rows) ≡ true) (λ x h. or_right (like x row) (list_any (like x) rows) h) rows (all_there rows),
-    )
+all_there (row ∷ rows) = (
+  or_left (like row row) (list_any (like row) rows) (and_from (is_same_name row.header.name row.header.name) (is_eq (kind_cmp (kind_of row) (kind_of row))) (same_name_of row.header.name row.header.name refl) (ap is_eq (tied_itself kinds_total (kind_of row)))),
+  all_weaker (λ (x : Row). list_any (like x) rows ≡ true) (λ (x : Row). list_any (like x) (row ∷ rows) ≡ true) (λ x h. or_right (like x row) (list_any (like x) rows) h) rows (all_there rows),
+)
 
 found : (q : Kind) (entries : List (Kind × BTreeMap Moment Kept)) → is_full (entries_or (lookup (is_at (kind_cmp q)) entries)) ≡ true → list_any (λ k. is_eq (kind_cmp q k)) (keys_of entries) ≡ true
 unfolding is_full

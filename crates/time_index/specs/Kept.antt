@@ -65,13 +65,16 @@ kept_mend rate e spans = mend from upto (both rate) e spans
 
 -- what is kept of a row alone
 abbrev pub kept_of : Row → Moment × Kept
-kept_of row = (row.header.start, record {
-  reach = record { micros = int_min (reach_at row.header.start.micros (next_index row.header) row.header.rate 0) (pos (2 ^ 63 - 1)) };
-  next = record { start = row.header.start; k = next_index row.header };
-  last = record { start = row.header.start; k = last_index row.header };
-  updated = row.moment;
-  rows = 1;
-})
+kept_of row = (
+  row.header.start,
+  record {
+    reach = record { micros = int_min (reach_at row.header.start.micros (next_index row.header) row.header.rate 0) (pos (2 ^ 63 - 1)) };
+    next = record { start = row.header.start; k = next_index row.header };
+    last = record { start = row.header.start; k = last_index row.header };
+    updated = row.moment;
+    rows = 1;
+  },
+)
 
 -- the spans of rows of one rate, which go in one by one
 abbrev pub kept_spans : Ratio → List Row → List (Moment × Kept)

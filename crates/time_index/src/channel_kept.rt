@@ -51,13 +51,7 @@ pub fn add_row(
     ensures err { OnErr result ((rows : List Row) → AllKept rows channels.old → AllKept rows channels.new) }
 {
     if let Some(kinds) = channels.get_mut(&row.header.name) {
-        add_span(
-            alloc,
-            kinds,
-            kind_of(row),
-            row.header.start,
-            kept_of(row),
-        )?;
+        add_span(alloc, kinds, kind_of(row), row.header.start, kept_of(row))?;
         return Ok(());
     }
     begin(alloc, channels, row)

@@ -51,6 +51,14 @@ fn main(rt: HostRuntime) -> ExitCode {
     let Ok(disk) = disk_for(&rt, alloc, &words) else {
         return ExitCode::from(out_of_memory(&mut errors));
     };
-    let ended = run(&rt, alloc, &words, &mut source, &mut sink, &mut errors, disk);
+    let ended = run(
+        &rt,
+        alloc,
+        &words,
+        &mut source,
+        &mut sink,
+        &mut errors,
+        disk,
+    );
     ExitCode::from(ended.status)
 }

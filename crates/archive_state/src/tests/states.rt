@@ -46,7 +46,8 @@ fn archive(alloc: Global, admit: &mut Admit, state: &mut State) -> Result<(), Fa
 }
 
 // The lines of a network, a station and an event.
-const EPOCHS: &str = "NET|IU|GSN|1988-01-01|\nSTA|IU|ANMO|34.9459|-106.4572|1850|Albuquerque|2002-11-19T21:07:00|\nEVT|e1|2024-01-01T07:10:09|37.498|137.242|10|us|NEIC|us|e1|Mww|7.5|us|Noto\n";
+const EPOCHS: &str =
+    "NET|IU|GSN|1988-01-01|\nSTA|IU|ANMO|34.9459|-106.4572|1850|Albuquerque|2002-11-19T21:07:00|\nEVT|e1|2024-01-01T07:10:09|37.498|137.242|10|us|NEIC|us|e1|Mww|7.5|us|Noto\n";
 
 #[test]
 fn holds_rows_lines_and_entries(rt: HostRuntime) -> Result<(), Fail> {

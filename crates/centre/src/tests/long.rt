@@ -46,7 +46,15 @@ fn takes_64_mebibytes_at_most(rt: HostRuntime) -> Result<(), Fail> {
         let mut sink = MemorySink::new(alloc, Many::new(alloc));
         let mut errors = MemorySink::new(alloc, Many::new(alloc));
         let disk = empty_disk(alloc)?;
-        let ended = run(&rt, alloc, &words, &mut source, &mut sink, &mut errors, disk);
+        let ended = run(
+            &rt,
+            alloc,
+            &words,
+            &mut source,
+            &mut sink,
+            &mut errors,
+            disk,
+        );
         assert_eq!(rt; ended.status, wanted);
         assert_eq!(rt; errors.told().ok_or("lost")?, text.as_bytes());
     }

@@ -360,7 +360,15 @@ fn runs_from_a_reader_to_a_writer(rt: HostRuntime) -> Result<(), Fail> {
     let mut sink = StdSink::telling(&mut output);
     let mut errors = MemorySink::new(alloc, Many::new(alloc));
     let disk = empty_disk(alloc)?;
-    let ended = run(&rt, alloc, &words, &mut source, &mut sink, &mut errors, disk);
+    let ended = run(
+        &rt,
+        alloc,
+        &words,
+        &mut source,
+        &mut sink,
+        &mut errors,
+        disk,
+    );
     assert_eq!(rt; ended.status, 0);
     drop(sink);
     assert_eq!(rt; output.as_slice(), record.as_slice());
