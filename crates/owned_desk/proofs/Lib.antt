@@ -1,0 +1,4 @@
+pub mod Growth
+pub mod Leaving
+pub mod Posts
+pub mod Submitting

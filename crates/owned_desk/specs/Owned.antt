@@ -1,0 +1,29 @@
+-- What an owned desk stands for, and what its disk holds.
+use Rattle.std.specs.Prelude.{ℕ, Bool, true, List, [], ◌∷◌, ◌++◌, Option, None, Some, Result, Ok, Err}
+use Rattle.disk_model.specs.Disk.{Leaves}
+use Rattle.archive_entry.specs.declared.entry.Entry.{Entry}
+use Rattle.archive_log.specs.Histories.{Recovers, RecoversWithOrWithout}
+use Rattle.desk_words.specs.Stand.{Stand, Left, nothing, short, stopped}
+
+-- what is left: the entry that waits, or the one whose commit failed
+abbrev pub left_of : Option Entry → Option Entry → Left
+left_of (Some e) hand = short e
+left_of None (Some e) = stopped e
+left_of None None = nothing
+
+abbrev pub stand_as : Bool → ℕ → List Entry → ℕ → ℕ → ℕ → Option Entry → Option Entry → Stand
+stand_as told faults seen stops caught made waiting hand = record {
+  footing = record { told = told; faults = faults };
+  seen = seen;
+  stops = stops;
+  caught = caught;
+  made = made;
+  alone = true;
+  left = left_of waiting hand;
+}
+
+-- a crash leaves what was seen; or this and what was left short; or this with or without what was stopped
+abbrev pub LeavesLeft : (List ℕ → Type 0) → List Entry → Left → Type 0
+LeavesLeft images seen nothing = Leaves images (Recovers seen)
+LeavesLeft images seen (short e) = Leaves images (Recovers (seen ++ e ∷ []))
+LeavesLeft images seen (stopped e) = Leaves images (RecoversWithOrWithout seen e)
