@@ -12,5 +12,7 @@
 mod kept;
 mod opening;
 mod owned;
+#[cfg(test)]
+mod tests;
 
 pub use kept::OwnedDesk;

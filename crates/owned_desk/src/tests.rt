@@ -1,0 +1,379 @@
+//! Desks over small archives on disks in memory: what is posted and asked, stops, and what a crash leaves.
+ghost use Rattle.std.specs.Prelude.{◌≡◌};
+ghost use Rattle.desk_words.specs.Posting.{can_be_posted};
+
+use crate::OwnedDesk;
+use access_digest::Denial;
+use archive_entry::Kind;
+use archive_log::{Archive, StartFault};
+use archive_state::{Limits, Posted, Verdict};
+use desk_words::{Desk, Outcome, Question, SubmitFault, Submitted, Wanted};
+use disk_model::{Choice, Disk, FuseDisk, MemoryDisk};
+use exact_time::{Bytes, Many, Moment};
+use http_digest::{Credentials, Secret};
+use query_words::{AvailMethod, avail_get, data_get};
+use std::alloc::Global;
+use std::test::Fail;
+
+const HA1: &str = "939e7578ed9e3c518a452acee763bce9";
+
+const USERS: &str =
+    "USR|feed1|939e7578ed9e3c518a452acee763bce9|feed\nUSR|ada|939e7578ed9e3c518a452acee763bce9|reader\n";
+
+const RESTRICTED: &str = "RST|IU|ANMO|00|BHZ|2024-01-01|\nGRT|ada|IU|ANMO|00|BHZ|2024-01-01|\n";
+
+const SECRET: Secret = Secret {
+    bytes: [0, 1, 2, 3, 4, 5, 6, 7, 8, 9, 10, 11, 12, 13, 14, 15],
+};
+
+// 2024-03-01T00:00:00
+const NOW: Moment = Moment {
+    micros: 1_709_251_200_000_000,
+};
+
+const TARGET: &str = "/feed/1/batch?seq=2";
+
+// What a user with that HA1 answers a challenge of that secret and that moment, made with Python's hashlib.
+const ANSWER: &str =
+    r#"realm="FDSN", nonce="0000000065e11a80c4b9ad505cad33331a9629a94b60ee48", uri="/feed/1/batch?seq=2", response="e3763080798a223f0d4339d9db231146""#;
+
+// The head of a record: IU ANMO 00 BHZ, quality D, 100 samples at 20 Hz from 2024-02-01T00:00:00.
+const ANMO_HEAD: [u8; 56] = [
+    0x30, 0x30, 0x30, 0x30, 0x30, 0x31, 0x44, 0x20, 0x41, 0x4e, 0x4d, 0x4f, 0x20, 0x30, 0x30, 0x42,
+    0x48, 0x5a, 0x49, 0x55, 0x07, 0xe8, 0x00, 0x20, 0x00, 0x00, 0x00, 0x00, 0x00, 0x00, 0x00, 0x64,
+    0x00, 0x14, 0x00, 0x01, 0x00, 0x00, 0x00, 0x01, 0x00, 0x00, 0x00, 0x00, 0x00, 0x40, 0x00, 0x30,
+    0x03, 0xe8, 0x00, 0x00, 0x0a, 0x01, 0x09, 0x00,
+];
+
+fn anmo_record() -> [u8; 512] {
+    let mut record = [0; 512];
+    record[..56].copy_from_slice(&ANMO_HEAD);
+    record
+}
+
+// Two samples at 3 Hz in its place.
+fn three_hertz_record() -> [u8; 512] {
+    let mut record = anmo_record();
+    record[30..36].copy_from_slice(&[0, 2, 0, 3, 0, 1]);
+    record
+}
+
+fn bytes(alloc: Global, piece: &[u8]) -> Result<Bytes, Fail> {
+    let mut bytes = Bytes::new(alloc);
+    bytes.extend(piece)?;
+    Ok(bytes)
+}
+
+fn credentials(alloc: Global, name: &str) -> Result<Credentials, Fail> {
+    let header = format!(in alloc; "Digest username=\"{name}\", {ANSWER}")?;
+    Ok(Credentials {
+        header: Some(bytes(alloc, header.as_bytes())?),
+        method: bytes(alloc, b"POST")?,
+        target: bytes(alloc, TARGET.as_bytes())?,
+    })
+}
+
+fn batch(alloc: Global, name: &str, seq: u64, body: &[u8]) -> Result<Posted, Fail> {
+    Ok(Posted {
+        credentials: credentials(alloc, name)?,
+        kind: Kind::Batch,
+        seq,
+        body: bytes(alloc, body)?,
+    })
+}
+
+fn revision(alloc: Global, name: &str, seq: u64, body: &str) -> Result<Posted, Fail> {
+    Ok(Posted {
+        credentials: credentials(alloc, name)?,
+        kind: Kind::Revise,
+        seq,
+        body: bytes(alloc, body.as_bytes())?,
+    })
+}
+
+fn fits(posted: &Posted, moment: Moment) -> bool
+    ensures { result ≡ can_be_posted posted.now moment }
+{
+    1 <= posted.seq
+        && (posted.seq <= 1_000_000_000_000_000_000
+            && (posted.body.len() <= 1_048_576 && moment.is_clock_moment()))
+}
+
+// Posts it now.
+fn post<D: Disk>(
+    alloc: Global,
+    desk: &mut OwnedDesk<D>,
+    posted: &Posted,
+) -> Result<Result<Submitted, SubmitFault>, Fail> {
+    if !fits(posted, NOW) {
+        return Err("not a post".into());
+    }
+    Ok(desk.submit(alloc, posted, NOW, &SECRET, &Limits::FULL))
+}
+
+// A synced disk with this file, which fails at these calls.
+fn disk_of(alloc: Global, file: &[u8], fails: &[u64]) -> Result<MemoryDisk, Fail> {
+    let mut calls = Many::new(alloc);
+    for call in fails {
+        calls.push(*call)?;
+    }
+    Ok(MemoryDisk::new(alloc, bytes(alloc, file)?, calls)?)
+}
+
+// The file of an archive: the founding entry of op, the users feed1 and ada, and the record by feed1.
+fn archive_file(alloc: Global) -> Result<Bytes, Fail> {
+    let disk = match Archive::found(alloc, disk_of(alloc, b"", &[])?, "op", HA1) {
+        Ok(archive) => archive.close(),
+        Err((_, fault)) => return Err(fault.into()),
+    };
+    let mut desk = match OwnedDesk::start(alloc, disk) {
+        Ok(desk) => desk,
+        Err((_, fault)) => return Err(fault.into()),
+    };
+    let users = revision(alloc, "op", 1, USERS)?;
+    let record = batch(alloc, "feed1", 1, &anmo_record())?;
+    for posted in [users, record] {
+        let Ok(told) = post(alloc, &mut desk, &posted)? else {
+            return Err("not added".into());
+        };
+        let Verdict::Accept(_) = told.verdict else {
+            return Err("not accepted".into());
+        };
+    }
+    Ok(desk.close().image(Choice::Old)?)
+}
+
+// How many entries a desk sees that starts from this file, or why none starts.
+fn front_of(alloc: Global, file: &[u8]) -> Result<Result<u64, StartFault>, Fail> {
+    match OwnedDesk::start(alloc, disk_of(alloc, file, &[])?) {
+        Ok(desk) => Ok(Ok(desk.front())),
+        Err((_, fault)) => Ok(Err(fault)),
+    }
+}
+
+// Asks now, as nobody in particular or as a user.
+fn asked<D: Disk>(
+    alloc: Global,
+    desk: &mut OwnedDesk<D>,
+    wanted: Wanted,
+    credentials: Option<Credentials>,
+    least: u64,
+) -> Result<(u64, Outcome), Fail> {
+    let question = Question {
+        wanted,
+        credentials,
+        least,
+        moment: NOW,
+    };
+    let answer = desk.ask(alloc, &question, &SECRET, &Limits::FULL)?;
+    Ok((answer.front, answer.outcome))
+}
+
+// Asks for the records of IU.
+fn records_asked<D: Disk>(
+    alloc: Global,
+    desk: &mut OwnedDesk<D>,
+    least: u64,
+) -> Result<(u64, Outcome), Fail> {
+    let wanted = Wanted::Waves(data_get(alloc, b"net=IU")?);
+    asked(alloc, desk, wanted, None, least)
+}
+
+#[test]
+fn adds_once_what_is_posted(rt: HostRuntime) -> Result<(), Fail> {
+    let alloc = rt.alloc();
+    let file = archive_file(alloc)?;
+    let mut desk = match OwnedDesk::start(alloc, disk_of(alloc, file.as_slice(), &[])?) {
+        Ok(desk) => desk,
+        Err((_, fault)) => return Err(fault.into()),
+    };
+    assert_eq!(rt; (desk.front(), desk.stops()), (3, 0));
+    let slow = three_hertz_record();
+    let again = batch(alloc, "feed1", 2, &anmo_record())?;
+    let told = post(alloc, &mut desk, &again)??;
+    assert_eq!(rt;
+        (told.verdict, told.judged, told.front),
+        (Verdict::Accept(4), 3, 4)
+    );
+    let told = post(alloc, &mut desk, &again)??;
+    assert_eq!(rt;
+        (told.verdict, told.judged, told.front),
+        (Verdict::Repeat(4), 4, 4)
+    );
+    let other = batch(alloc, "feed1", 2, &slow)?;
+    assert_eq!(rt;
+        post(alloc, &mut desk, &other)??.verdict,
+        Verdict::OtherBody(4)
+    );
+    let late = batch(alloc, "feed1", 5, &slow)?;
+    assert_eq!(rt; post(alloc, &mut desk, &late)??.verdict, Verdict::Gap(2));
+    desk.catch_up();
+    // The record is held once, though two entries bring it.
+    match records_asked(alloc, &mut desk, 4)? {
+        (front, Outcome::Body(body)) => {
+            assert_eq!(rt; front, 4);
+            assert_eq!(rt; body.as_slice(), anmo_record().as_slice());
+        }
+        _ => return Err("no records".into()),
+    }
+    match records_asked(alloc, &mut desk, 5)? {
+        (front, Outcome::Behind) => assert_eq!(rt; front, 4),
+        _ => return Err("not behind".into()),
+    }
+    assert_eq!(rt;
+        front_of(alloc, desk.close().image(Choice::Old)?.as_slice())?,
+        Ok(4)
+    );
+    Ok(())
+}
+
+// What the images hold of a disk that stops after so many calls, where a record is posted twice: both posts are stopped,
+// and questions are answered. Posted again to what a crash leaves, the record is added, or was.
+fn stopped_at(alloc: Global, file: &[u8], calls: u64) -> Result<[u64; 4], Fail> {
+    let fuse = FuseDisk::new(disk_of(alloc, file, &[])?, calls);
+    let mut desk = match OwnedDesk::start(alloc, fuse) {
+        Ok(desk) => desk,
+        Err((_, fault)) => return Err(fault.into()),
+    };
+    let posted = batch(alloc, "feed1", 2, &three_hertz_record())?;
+    for times in [1, 2] {
+        let stopped = post(alloc, &mut desk, &posted)?.err() == Some(SubmitFault::Stopped);
+        if !stopped || (desk.front(), desk.stops()) != (3, times) {
+            return Err("not stopped".into());
+        }
+    }
+    let (_, Outcome::Body(_)) = records_asked(alloc, &mut desk, 3)? else {
+        return Err("not answered".into());
+    };
+    let disk = desk.close().into_disk();
+    let choices = [Choice::Old, Choice::New, Choice::Fill(0), Choice::Fill(255)];
+    let mut fronts = [0; 4];
+    for (front, choice) in fronts.iter_mut().zip(choices) {
+        *front = posted_again(alloc, disk.image(choice)?.as_slice(), &posted)?;
+    }
+    Ok(fronts)
+}
+
+// How many entries a desk sees that starts from this file; posted again, the entry is the fourth one.
+fn posted_again(alloc: Global, file: &[u8], posted: &Posted) -> Result<u64, Fail> {
+    let mut desk = match OwnedDesk::start(alloc, disk_of(alloc, file, &[])?) {
+        Ok(desk) => desk,
+        Err((_, fault)) => return Err(fault.into()),
+    };
+    let front = desk.front();
+    let told = post(alloc, &mut desk, posted)??;
+    match (front, told.verdict) {
+        (3, Verdict::Accept(4)) => Ok(front),
+        (4, Verdict::Repeat(4)) => Ok(front),
+        _ => Err("not with it or without it".into()),
+    }
+}
+
+// A start of three entries makes ten calls: a sync, the length, the magic, four gates and three entries. A commit makes
+// four.
+#[test]
+fn stops_with_it_or_without_it(rt: HostRuntime) -> Result<(), Fail> {
+    let alloc = rt.alloc();
+    let file = archive_file(alloc)?;
+    let stops = [
+        (10, [3, 3, 3, 3]),
+        (11, [3, 3, 3, 3]),
+        (12, [3, 3, 3, 3]),
+        (13, [3, 4, 3, 3]),
+    ];
+    for (calls, wanted) in stops {
+        assert_eq!(rt;
+            stopped_at(alloc, file.as_slice(), calls)?,
+            wanted,
+            "after {calls}"
+        );
+    }
+    Ok(())
+}
+
+// A disk that fails at one call alone leaves the desk stopped.
+#[test]
+fn a_fault_stays(rt: HostRuntime) -> Result<(), Fail> {
+    let alloc = rt.alloc();
+    let file = archive_file(alloc)?;
+    let mut desk = match OwnedDesk::start(alloc, disk_of(alloc, file.as_slice(), &[11])?) {
+        Ok(desk) => desk,
+        Err((_, fault)) => return Err(fault.into()),
+    };
+    let posted = batch(alloc, "feed1", 2, &three_hertz_record())?;
+    for times in [1, 2] {
+        assert_eq!(rt;
+            post(alloc, &mut desk, &posted)?.err(),
+            Some(SubmitFault::Stopped)
+        );
+        assert_eq!(rt; (desk.front(), desk.stops()), (3, times));
+    }
+    let (_, Outcome::Body(_)) = records_asked(alloc, &mut desk, 3)? else {
+        return Err("not answered".into());
+    };
+    // What changes nothing is judged as ever.
+    let unknown = batch(alloc, "bob", 1, b"")?;
+    let told = post(alloc, &mut desk, &unknown)??;
+    assert_eq!(rt; told.verdict, Verdict::Denied(Denial::UnknownUser));
+    Ok(())
+}
+
+#[test]
+fn starts_from_no_other_file(rt: HostRuntime) -> Result<(), Fail> {
+    let alloc = rt.alloc();
+    assert_eq!(rt; front_of(alloc, b"")?, Err(StartFault::NotAJournal));
+    assert_eq!(rt;
+        front_of(alloc, b"FDSNARCHIVE-0001\0")?,
+        Err(StartFault::Damaged(16))
+    );
+    let file = archive_file(alloc)?;
+    assert_eq!(rt; front_of(alloc, file.as_slice())?, Ok(3));
+    // The user's entry is the second one: its gate is at 102, behind 16 bytes, 5 and 81.
+    let mut wrong = bytes(alloc, file.as_slice().get(..114).ok_or("too short")?)?;
+    wrong.push(3)?;
+    wrong.extend(file.as_slice().get(115..).ok_or("too short")?)?;
+    assert_eq!(rt;
+        front_of(alloc, wrong.as_slice())?,
+        Err(StartFault::Damaged(102))
+    );
+    Ok(())
+}
+
+// A restriction hides a record, and a grant shows it to its user, as RESTRICTED; without the grant it is hidden again.
+#[test]
+fn a_grant_shows_what_a_restriction_hides(rt: HostRuntime) -> Result<(), Fail> {
+    let alloc = rt.alloc();
+    let file = archive_file(alloc)?;
+    let mut desk = match OwnedDesk::start(alloc, disk_of(alloc, file.as_slice(), &[])?) {
+        Ok(desk) => desk,
+        Err((_, fault)) => return Err(fault.into()),
+    };
+    let lines = revision(alloc, "op", 2, RESTRICTED)?;
+    assert_eq!(rt;
+        post(alloc, &mut desk, &lines)??.verdict,
+        Verdict::Accept(4)
+    );
+    let (_, Outcome::Empty) = records_asked(alloc, &mut desk, 0)? else {
+        return Err("shown".into());
+    };
+    let ada = Some(credentials(alloc, "ada")?);
+    let records = Wanted::Waves(data_get(alloc, b"net=IU")?);
+    match asked(alloc, &mut desk, records, ada, 0)? {
+        (_, Outcome::Body(body)) => assert_eq!(rt; body.as_slice(), anmo_record().as_slice()),
+        _ => return Err("hidden".into()),
+    }
+    let ada = Some(credentials(alloc, "ada")?);
+    let extent = Wanted::Extent(avail_get(alloc, b"net=IU", AvailMethod::Extent)?);
+    match asked(alloc, &mut desk, extent, ada, 0)? {
+        (_, Outcome::Body(text)) => assert!(rt; text.as_slice().ends_with(b" RESTRICTED\n")),
+        _ => return Err("no extent".into()),
+    }
+    let none = revision(alloc, "op", 3, "DEL|GRT|ada|IU|ANMO|00|BHZ|2024-01-01\n")?;
+    assert_eq!(rt; post(alloc, &mut desk, &none)??.verdict, Verdict::Accept(5));
+    let ada = Some(credentials(alloc, "ada")?);
+    let records = Wanted::Waves(data_get(alloc, b"net=IU")?);
+    let (_, Outcome::Empty) = asked(alloc, &mut desk, records, ada, 0)? else {
+        return Err("shown again".into());
+    };
+    Ok(())
+}
