@@ -1,4 +1,5 @@
 pub mod Access
 pub mod AccessLaw
+pub mod DenialNames
 pub mod Who
 pub mod WhoLaw

@@ -18,6 +18,11 @@ pub enum Denial {
 }
 
 impl fmt::Display for Denial {
+    ghost use Rattle.std.specs.Prelude.{Some};
+    ghost use Rattle.access_digest.specs.DenialNames.{denial_name};
+
+    ghost output = { λ fault. Some (denial_name fault) };
+
     fn fmt<W: fmt::Write>(&self, f: &mut fmt::Formatter<W>) -> fmt::Result {
         f.write_str(match self {
             Denial::Absent => "Absent",

@@ -2,7 +2,7 @@
 use Rattle.std.specs.Prelude.{ℕ, List, [], ◌++◌, codes, Result, Ok, Err}
 use Rattle.std.specs.Fmt.{decimal}
 use Rattle.mseed_header.specs.declared.header.RecordFault.{RecordFault}
-use Rattle.mseed_header.specs.declared.header.RecordFault.TheVariants.{Short, Year, Time, Quality as BadQuality, Code, Chain, Length, NoBlockette1000, Reach}
+use Rattle.mseed_header.specs.FaultNames.{record_fault_name}
 use Rattle.centre.specs.declared.ending.Word.{Word}
 use Rattle.centre.specs.declared.ending.Word.TheVariants.{Network, Station, Location, Channel, Start, End, Quality, Minimum, Longest}
 use Rattle.centre.specs.declared.ending.Refusal.{Refusal}
@@ -31,7 +31,7 @@ abbrev pub status_of_run : Result (Unit {0}) Stop → ℕ
 status_of_run (Ok done) = 0
 status_of_run (Err stop) = status_of stop
 
--- how a word and a fault are named to users
+-- how a word is named to users
 abbrev pub name_of_word : Word → List ℕ
 name_of_word Network = codes "NET"
 name_of_word Station = codes "STA"
@@ -43,22 +43,11 @@ name_of_word Quality = codes "QUALITY"
 name_of_word Minimum = codes "MINIMUM"
 name_of_word Longest = codes "LONGEST"
 
-abbrev pub name_of_fault : RecordFault → List ℕ
-name_of_fault Short = codes "Short"
-name_of_fault Year = codes "Year"
-name_of_fault Time = codes "Time"
-name_of_fault BadQuality = codes "Quality"
-name_of_fault Code = codes "Code"
-name_of_fault Chain = codes "Chain"
-name_of_fault Length = codes "Length"
-name_of_fault NoBlockette1000 = codes "NoBlockette1000"
-name_of_fault Reach = codes "Reach"
-
 abbrev pub text_of_refusal : Refusal → List ℕ
 text_of_refusal UnknownCommand = codes "centre: unknown command line\n"
 text_of_refusal (Value word) = codes "centre: query: Value " ++ name_of_word word ++ codes "\n"
 text_of_refusal Order = codes "centre: query: Order\n"
-text_of_refusal (Record at fault) = codes "centre: record at offset " ++ decimal at ++ codes ": " ++ name_of_fault fault ++ codes "\n"
+text_of_refusal (Record at fault) = codes "centre: record at offset " ++ decimal at ++ codes ": " ++ record_fault_name fault ++ codes "\n"
 text_of_refusal NoData = codes "centre: no data\n"
 text_of_refusal (TooLarge bytes limit) = codes "centre: " ++ decimal bytes ++ codes " bytes exceed " ++ decimal limit ++ codes "\n"
 text_of_refusal NotEmpty = codes "centre: journal is not empty\n"

@@ -1,6 +1,6 @@
 //! Tells why a run stopped.
 ghost use Rattle.std.specs.Prelude.{◌≡◌, ◌⊎◌, string_bytes, IfOk};
-ghost use Rattle.centre.specs.Status.{name_of_word, name_of_fault, error_text_of, text_of_refusal};
+ghost use Rattle.centre.specs.Status.{name_of_word, error_text_of, text_of_refusal};
 ghost use Rattle.centre.specs.Table.{Tells, ToldFor};
 
 use crate::ending::{Refusal, Stop, Word};
@@ -27,27 +27,12 @@ fn value_text(word: Word) -> &'static str
     }
 }
 
-fn fault_name(fault: RecordFault) -> &'static str
-    ensures { result.now ≡ name_of_fault fault }
-{
-    match fault {
-        RecordFault::Short => "Short",
-        RecordFault::Year => "Year",
-        RecordFault::Time => "Time",
-        RecordFault::Quality => "Quality",
-        RecordFault::Code => "Code",
-        RecordFault::Chain => "Chain",
-        RecordFault::Length => "Length",
-        RecordFault::NoBlockette1000 => "NoBlockette1000",
-        RecordFault::Reach => "Reach",
-    }
-}
-
 fn record_text(alloc: Global, at: usize, fault: RecordFault) -> Result<String, AllocError>
     ensures { IfOk result (λ text. string_bytes text ≡ text_of_refusal (Refusal.Record at fault)) }
 {
     let mut text = format!(in alloc; "centre: record at offset {at}: ")?;
-    text.push_str(fault_name(fault))?;
+    let name = format!(in alloc; "{fault}")?;
+    text.push_str(name.as_str())?;
     text.push_str("\n")?;
     Ok(text)
 }

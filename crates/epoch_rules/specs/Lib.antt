@@ -12,4 +12,5 @@ pub mod Losses
 pub mod MapLines
 pub mod Neighbours
 pub mod Outlines
+pub mod RuleNames
 pub mod Rules

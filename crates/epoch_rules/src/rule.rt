@@ -26,6 +26,11 @@ pub enum Rule {
 }
 
 impl fmt::Display for Rule {
+    ghost use Rattle.std.specs.Prelude.{Some};
+    ghost use Rattle.epoch_rules.specs.RuleNames.{rule_name};
+
+    ghost output = { λ fault. Some (rule_name fault) };
+
     fn fmt<W: fmt::Write>(&self, f: &mut fmt::Formatter<W>) -> fmt::Result {
         f.write_str(match self {
             Rule::Overlap => "Overlap",

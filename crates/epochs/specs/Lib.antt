@@ -1,9 +1,10 @@
-pub mod Spellable
+pub mod FaultNames
 pub mod Fields
 pub mod Keys
 pub mod Kinds
 pub mod Lines
 pub mod Reading
 pub mod Revisions
+pub mod Spellable
 pub mod Values
 pub mod Views

@@ -1,4 +1,5 @@
 pub mod Blocks
+pub mod FaultTexts
 pub mod FieldPairs
 pub mod Fronts
 pub mod HeadReading

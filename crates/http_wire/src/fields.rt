@@ -41,7 +41,8 @@ pub(crate) fn field_of(alloc: Global, name: &[u8], value: &[u8]) -> Result<Field
     Ok(Field { name, value })
 }
 
-pub(crate) fn is_named(field: &Field, name: &[u8]) -> bool
+/// Whether the field has this name, which is in lower case.
+pub fn is_named(field: &Field, name: &[u8]) -> bool
     ensures { result ≡ is_field name.now (as_pair field.now) }
 {
     field.name.as_slice() == name
@@ -59,8 +60,8 @@ fn has_field(fields: &[Field], name: &[u8]) -> bool
     false
 }
 
-// The number that 1 to 18 digits stand for.
-fn length_in(text: &[u8]) -> Option<u64>
+/// The number that 1 to 18 digits stand for; any other text stands for none.
+pub fn length_in(text: &[u8]) -> Option<u64>
     ensures value { result ≡ length_in text.now }
     ensures bound { IfSome result (λ n. n < 10 ^ 18) }
 {

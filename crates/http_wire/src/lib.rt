@@ -38,10 +38,12 @@ mod request;
 mod taking;
 #[cfg(test)]
 mod tests;
+mod turn;
 mod writing;
 
 pub use ending::{HeadFault, ReadEnd};
 pub use field::Field;
+pub use fields::{is_named, length_in};
 pub use inbox::Inbox;
 pub use law::{
     a_front_holds_its_target, a_stream_has_one_list_of_items, answers_speak_of_all_bytes,
@@ -50,3 +52,4 @@ pub use law::{
 pub use reading::read_request;
 pub use request::Request;
 pub use streams::{Link, MemoryLink, Sink, Source, Stream, put_all};
+pub use turn::Turn;

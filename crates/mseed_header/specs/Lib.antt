@@ -1,5 +1,6 @@
 pub mod Blockettes
 pub mod CodeField
+pub mod FaultNames
 pub mod Fields
 pub mod Header
 pub mod Octets

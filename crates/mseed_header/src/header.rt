@@ -45,6 +45,11 @@ pub enum RecordFault {
 }
 
 impl fmt::Display for RecordFault {
+    ghost use Rattle.std.specs.Prelude.{Some};
+    ghost use Rattle.mseed_header.specs.FaultNames.{record_fault_name};
+
+    ghost output = { λ fault. Some (record_fault_name fault) };
+
     fn fmt<W: fmt::Write>(&self, f: &mut fmt::Formatter<W>) -> fmt::Result {
         f.write_str(match self {
             RecordFault::Short => "Short",

@@ -22,6 +22,8 @@ const USERS: &str =
 
 const RESTRICTED: &str = "RST|IU|ANMO|00|BHZ|2024-01-01|\nGRT|ada|IU|ANMO|00|BHZ|2024-01-01|\n";
 
+const HIDDEN: &str = "RST|IU|ANMO|00|BHZ|2024-01-01|\n";
+
 const SECRET: Secret = Secret {
     bytes: [0, 1, 2, 3, 4, 5, 6, 7, 8, 9, 10, 11, 12, 13, 14, 15],
 };
@@ -375,5 +377,35 @@ fn a_grant_shows_what_a_restriction_hides(rt: HostRuntime) -> Result<(), Fail> {
     let (_, Outcome::Empty) = asked(alloc, &mut desk, records, ada, 0)? else {
         return Err("shown again".into());
     };
+    Ok(())
+}
+
+// Whether nobody in particular is told of a record that is hidden before it is added.
+fn hides(alloc: Global, file: &[u8], record: &[u8]) -> Result<bool, Fail> {
+    let mut desk = match OwnedDesk::start(alloc, disk_of(alloc, file, &[])?) {
+        Ok(desk) => desk,
+        Err((_, fault)) => return Err(fault.into()),
+    };
+    let hide = revision(alloc, "op", 2, HIDDEN)?;
+    if post(alloc, &mut desk, &hide)??.verdict != Verdict::Accept(4) {
+        return Err("not accepted".into());
+    }
+    let added = batch(alloc, "feed1", 2, record)?;
+    if post(alloc, &mut desk, &added)??.verdict != Verdict::Accept(5) {
+        return Err("not accepted".into());
+    }
+    match records_asked(alloc, &mut desk, 0)? {
+        (5, Outcome::Empty) => Ok(true),
+        _ => Ok(false),
+    }
+}
+
+// Two archives that differ in a record which nobody in particular may have.
+#[test]
+fn what_is_hidden_is_not_told(rt: HostRuntime) -> Result<(), Fail> {
+    let alloc = rt.alloc();
+    let file = archive_file(alloc)?;
+    assert!(rt; hides(alloc, file.as_slice(), &anmo_record())?);
+    assert!(rt; hides(alloc, file.as_slice(), &three_hertz_record())?);
     Ok(())
 }

@@ -1,6 +1,7 @@
 pub mod Bodies
 pub mod BodyWords
 pub mod Extracts
+pub mod FaultTexts
 pub mod FirstRefusals
 pub mod Fronts
 pub mod Gets

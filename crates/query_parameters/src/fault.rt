@@ -27,6 +27,11 @@ pub enum QueryFault {
 }
 
 impl fmt::Display for QueryFault {
+    ghost use Rattle.std.specs.Prelude.{Some};
+    ghost use Rattle.query_parameters.specs.FaultTexts.{query_fault_text};
+
+    ghost output = { λ fault. Some (query_fault_text fault) };
+
     fn fmt<W: fmt::Write>(&self, f: &mut fmt::Formatter<W>) -> fmt::Result {
         match self {
             QueryFault::TooMany => f.write_str("TooMany"),
