@@ -1,0 +1,10 @@
+pub mod Asks
+pub mod Challenges
+pub mod Laws
+pub mod Posts
+pub mod Queried
+pub mod Readers
+pub mod Replied
+pub mod Sendable
+pub mod Statuses
+pub mod Values

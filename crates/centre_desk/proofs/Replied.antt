@@ -1,0 +1,38 @@
+-- A reply tells what was said.
+use Rattle.std.proofs.Common.{◌≡◌, ◌∙◌, ◌⊎◌, refl, sym, ap, subst, inl, inr, ⊎_elim, ℕ, Bool, true, false, List, length, Option, is_some}
+use Rattle.exact_time.specs.declared.moment.Moment.{Moment}
+use Rattle.archive_entry.specs.declared.entry.Entry.{Entry}
+use Rattle.desk_words.specs.Setting.{Setting}
+use Rattle.desk_words.specs.Stand.{Stand}
+use Rattle.http_replies.specs.declared.reply.Reply.{Reply}
+use Rattle.http_wire.specs.declared.request.Request.{Request}
+use Rattle.http_wire.specs.declared.turn.Turn.{Turn}
+use Rattle.centre_desk.specs.Answering.{HasSaid, SaysWhole, SaysStopped}
+use Rattle.centre_desk.specs.Replies.{told_of}
+use Rattle.centre_desk.specs.Told.{reply_from}
+use Rattle.centre_desk.specs.Turns.{IsWhole, IsStopped, Replied, posted_by}
+use Rattle.centre_desk.specs.declared.told.Told.{Told}
+use Rattle.centre_desk.specs.declared.told.Said.{Said}
+
+abbrev pub turn_of : Said → Moment → Turn
+turn_of said moment = record { front = said.front; moment = moment; entry = said.entry; short = false }
+
+same_reply : (r : Request) (moment : Moment) (s : Setting) (t u : Told) (n k : ℕ) → t ≡ u → n ≡ k → reply_from t n r moment s.secret ≡ reply_from u k r moment s.secret
+same_reply r moment s t u n k told front = ap (λ (x : Told). reply_from x n r moment s.secret) told ∙ ap (λ (x : ℕ). reply_from u x r moment s.secret) front
+
+pub replied : (old new : Stand) (r : Request) (moment : Moment) (s : Setting) (said : Said) → HasSaid old new (λ h added. told_of h r moment s added) (posted_by r) moment s said
+    → Replied old new r moment s (reply_from said.told said.front r moment s.secret) (turn_of said moment)
+replied old new r moment s said h = record {
+  moment_is = refl;
+  front = h.front;
+  not_short = refl;
+  rises = h.rises;
+  served = ⊎_elim
+      (λ (w : SaysWhole (λ g added. told_of g r moment s added) (posted_by r) new.seen moment s said).
+      inl (record { entry = w.entry; adds = w.adds; reply_is = same_reply r moment s said.told _ said.front (length new.seen) w.told_is h.front }))
+      (λ (w : SaysStopped (posted_by r) new.seen moment s said).
+      inr (record { no_entry = w.no_entry; could = w.could; reply_is = same_reply r moment s said.told _ said.front (length new.seen) w.told_is h.front }))
+      h.served;
+  stops = h.stops;
+  made = h.made;
+}

@@ -1,0 +1,5 @@
+mod Examples
+mod PlainTexts
+mod StaticInserts
+mod StaticLemmas
+mod TableFacts
