@@ -1,0 +1,5 @@
+pub mod Clocks
+pub mod Items
+pub mod Session
+pub mod Steps
+pub mod Turns

@@ -1,0 +1,104 @@
+-- A session over a link.
+use Rattle.std.specs.Prelude.{◌≡◌, ◌⊎◌, ℕ, ◌-◌, ◌≤◌, Bool, true, false, List, [], ◌∷◌, ◌++◌, length, take, map, ⊤, Option, None}
+use Rattle.std.specs.Io.KnownBytes.{Consumes, IsAtEnd}
+use Rattle.exact_time.specs.Causes.{Rose}
+use Rattle.exact_time.specs.declared.moment.Moment.{Moment}
+use Rattle.desk_words.specs.Setting.{Setting}
+use Rattle.desk_words.specs.Stand.{Stand}
+use Rattle.http_replies.specs.declared.reply.Reply.{Reply}
+use Rattle.http_replies.specs.Replies.{reply_bytes}
+use Rattle.http_wire.specs.declared.turn.Turn.{Turn}
+use Rattle.streams.specs.Effects.{Grew, WritesPart}
+use Rattle.streams.specs.View.{StreamView}
+use Rattle.centre_session.specs.Clocks.{GaveAll}
+use Rattle.centre_session.specs.Items.{Item, Ending, closing, over, cut, AreItems, AreFirst, IsInterim, output_of, memory_reply}
+use Rattle.centre_session.specs.Turns.{Serves}
+use Rattle.centre_session.specs.declared.ending.SessionEnd.{SessionEnd}
+use Rattle.centre_session.specs.declared.ending.SessionEnd.TheVariants.{Closed, Cut, LinkFault, Memory}
+
+-- what is known at one moment: of the desk, of the link, and which moments the clock gave
+pub record Scene : Type 0 where
+  pub stand : Stand
+  pub link : StreamView
+  pub given : Option (List Moment)
+
+abbrev pub scene : Stand → StreamView → Option (List Moment) → Scene
+scene stand link given = record { stand = stand; link = link; given = given }
+
+abbrev pub moments_of : List Turn → List Moment
+moments_of turns = map (λ t. t.moment) turns
+
+abbrev pub but_last : {A : Type 0} → List A → List A
+but_last xs = take (length xs - 1) xs
+
+-- These items, which had these turns and these replies, in order, over one history, are the first ones of what was taken
+-- from the link up to one moment; those bytes are behind them.
+pub record Session (before after : Scene) (s : Setting) (items : List Item) (turns : List Turn) (replies : List Reply) (behind : List ℕ) : Type 0 where
+  pub taken : List ℕ
+  pub then_left : Option (List ℕ)
+  pub lost : Consumes before.link.left then_left taken
+  pub first : AreFirst 0 taken items behind
+  pub serves : Serves before.stand after.stand s items turns replies
+  pub later : before.link.faults ≤ after.link.faults
+
+-- nothing is left in the link where the input's end ended the session
+abbrev pub IsSpent : Scene → Ending → Type 0
+IsSpent after closing = ⊤
+IsSpent after over = IsAtEnd after.link.left
+IsSpent after cut = IsAtEnd after.link.left
+
+-- A session that ended so: all its items were served, and all of their output was written.
+pub record Ended (before after : Scene) (s : Setting) (turns : List Turn) (ending : Ending) : Type 0 where
+  pub items : List Item
+  pub replies : List Reply
+  pub taken : List ℕ
+  pub lost : Consumes before.link.left after.link.left taken
+  pub interim : List ℕ
+  pub all : AreItems 0 taken items interim ending
+  pub spent : IsSpent after ending
+  pub serves : Serves before.stand after.stand s items turns replies
+  pub later : before.link.faults ≤ after.link.faults
+  pub moments : GaveAll before.given after.given (moments_of turns)
+  pub wrote : Grew before.link.written after.link.written (output_of items replies ++ interim)
+
+-- A session that a fault of the link stopped: a first part was written of the output of the items that have turns, and of
+-- the interim reply of the next one. All replies but the last are whole in it.
+pub record Broken (before after : Scene) (s : Setting) (turns : List Turn) : Type 0 where
+  pub items : List Item
+  pub replies : List Reply
+  pub behind : List ℕ
+  pub session : Session before after s items turns replies behind
+  pub moments : GaveAll before.given after.given (moments_of turns)
+  pub rose : Rose before.link.faults after.link.faults
+  pub interim : List ℕ
+  pub interim_is : IsInterim behind interim
+  pub wrote : WritesPart before.link.written after.link.written (output_of items replies ++ interim)
+  pub whole : length (output_of (but_last items) (but_last replies)) ≤ length wrote.part
+
+-- these bytes were written, or a first part of them where the link failed
+abbrev pub WritesOr : StreamView → StreamView → List ℕ → Type 0
+WritesOr before after bytes = Grew before.written after.written bytes ⊎ (Rose before.faults after.faults × WritesPart before.written after.written bytes)
+
+-- A session in which memory ran out while a request was read: one short turn more, and a reply of 500 that closes, or a
+-- first part of it where the link failed.
+pub record RanOut (before after : Scene) (s : Setting) (turns : List Turn) : Type 0 where
+  pub items : List Item
+  pub replies : List Reply
+  pub done : List Turn
+  pub last : Turn
+  pub turns_are : turns ≡ done ++ last ∷ []
+  pub behind : List ℕ
+  pub session : Session before after s items done replies behind
+  pub short : last.short ≡ true
+  pub no_entry : last.entry ≡ None
+  pub front : last.front ≡ length after.stand.seen
+  pub moments : GaveAll before.given after.given (moments_of turns)
+  pub interim : List ℕ
+  pub interim_is : IsInterim behind interim
+  pub wrote : WritesOr before.link after.link (output_of items replies ++ (interim ++ reply_bytes (memory_reply last.front true false)))
+
+abbrev pub SessionRow : Scene → Scene → Setting → List Turn → SessionEnd → Type 0
+SessionRow before after s turns Closed = Ended before after s turns closing ⊎ Ended before after s turns over
+SessionRow before after s turns Cut = Ended before after s turns cut
+SessionRow before after s turns LinkFault = Broken before after s turns
+SessionRow before after s turns Memory = RanOut before after s turns
