@@ -51,11 +51,7 @@ fn a_grant_shows_what_a_restriction_hides(rt: HostRuntime) -> Result<(), Fail> {
         command(alloc, "op", "/feed/1/revise?seq=2", restriction)?,
         plain(alloc, IU, "")?,
         signed(alloc, "ada", "/fdsnws/dataselect/1/queryauth?net=IU")?,
-        signed(
-            alloc,
-            "ada",
-            "/fdsnws/availability/1/extentauth?format=request",
-        )?,
+        signed(alloc, "ada", "/fdsnws/availability/1/extentauth")?,
         command(alloc, "op", "/feed/1/revise?seq=3", no_grant)?,
         signed(alloc, "ada", "/fdsnws/dataselect/1/queryauth?net=IU")?,
     ];
@@ -63,7 +59,8 @@ fn a_grant_shows_what_a_restriction_hides(rt: HostRuntime) -> Result<(), Fail> {
     add_text(&mut all, alloc, "200 OK", 4, "accepted 4\n")?;
     add_nothing(&mut all, alloc, 4)?;
     add_records(&mut all, alloc, 4, &anmo_record())?;
-    let extent = "IU ANMO 00 BHZ 2024-02-01T00:00:00.000000Z 2024-02-01T00:00:04.950000Z\n";
+    let extent =
+        "#Network Station Location Channel Quality SampleRate Earliest Latest Updated TimeSpans Restriction\nIU ANMO 00 BHZ D 20.0 2024-02-01T00:00:00.000000Z 2024-02-01T00:00:04.950000Z 2024-03-01T00:00:00.000000Z 1 RESTRICTED\n";
     add_text(&mut all, alloc, "200 OK", 4, extent)?;
     add_text(&mut all, alloc, "200 OK", 5, "accepted 5\n")?;
     add_nothing(&mut all, alloc, 5)?;

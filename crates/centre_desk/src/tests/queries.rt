@@ -1,5 +1,5 @@
 //! Questions and their answers.
-use super::data::{anmo_record, later_record, three_hertz_record};
+use super::data::{anmo_record, hour_record, later_record, ten_seconds_record, three_hertz_record};
 use super::{
     NOW, add_nothing, add_records, add_text, command, epochs_archive, plain, posted,
     record_archive, replies, told, users_archive, with_commands,
@@ -164,6 +164,39 @@ fn too_many_lines_are_asked_for(rt: HostRuntime) -> Result<(), Fail> {
     let large = "Error 413: 2 lines exceed 1\n";
     add_text(&mut all, alloc, "413 Payload Too Large", 4, large)?;
     let found = replies(alloc, &file, &requests, NOW, &limits)?;
+    assert_eq!(rt; found.as_slice(), all.as_slice());
+    Ok(())
+}
+
+const MERGED: &str =
+    "#Network Station Location Channel Quality SampleRate Earliest Latest\nIU ANMO 00 BHZ D 1.0 2024-02-01T00:00:00.000000Z 2024-02-01T01:00:09.000000Z\n";
+
+const APART: &str =
+    "#Network Station Location Channel Quality SampleRate Earliest Latest\nIU ANMO 00 BHZ D 1.0 2024-02-01T00:00:00.000000Z 2024-02-01T00:59:59.000000Z\nIU ANMO 00 BHZ D 1.0 2024-02-01T00:10:00.000000Z 2024-02-01T00:10:09.000000Z\nIU ANMO 00 BHZ D 1.0 2024-02-01T01:00:00.000000Z 2024-02-01T01:00:09.000000Z\n";
+
+const ASKED_FOR: &str = "IU ANMO 00 BHZ 2024-02-01T00:00:00.000000Z 2024-02-01T01:00:09.000000Z\n";
+
+// An hour, ten seconds inside it, and ten seconds behind it.
+#[test]
+fn spans_are_merged_where_they_overlap(rt: HostRuntime) -> Result<(), Fail> {
+    let alloc = rt.alloc();
+    let mut records = Bytes::new(alloc);
+    records.extend(&hour_record())?;
+    records.extend(&ten_seconds_record(0, 10))?;
+    records.extend(&ten_seconds_record(1, 0))?;
+    let batch = command(alloc, "feed1", "/feed/1/batch?seq=1", records.as_slice())?;
+    let file = with_commands(alloc, &users_archive(alloc)?, &[batch])?;
+    let request = "GET /fdsnws/availability/1/query?format=request&merge=overlap";
+    let requests = [
+        plain(alloc, "GET /fdsnws/availability/1/query?merge=overlap", "")?,
+        plain(alloc, "GET /fdsnws/availability/1/query", "")?,
+        plain(alloc, request, "")?,
+    ];
+    let mut all = Bytes::new(alloc);
+    add_text(&mut all, alloc, "200 OK", 3, MERGED)?;
+    add_text(&mut all, alloc, "200 OK", 3, APART)?;
+    add_text(&mut all, alloc, "200 OK", 3, ASKED_FOR)?;
+    let found = told(alloc, &file, &requests)?;
     assert_eq!(rt; found.as_slice(), all.as_slice());
     Ok(())
 }
