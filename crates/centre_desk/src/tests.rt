@@ -2,7 +2,7 @@
 use crate::reply;
 use archive_log::Archive;
 use archive_state::Limits;
-use disk_model::{Choice, Disk, FuseDisk, MemoryDisk};
+use disk_model::{Choice, Disk, MemoryDisk};
 use exact_time::{Bytes, Many, Moment};
 use http_digest::{Secret, nonce_of, response_of};
 use http_replies::write_reply;

@@ -8,7 +8,9 @@ use exact_time::Moment;
 /// the greatest number of its type.
 #[derive(Clone, Copy, Debug)]
 pub struct FixedClock {
+    /// What each reading answers.
     pub moment: Moment,
+    /// How many readings were taken.
     pub calls: u64,
     pub ghost moment_is: { is_clock_moment moment ≡ true },
 }

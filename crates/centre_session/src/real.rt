@@ -21,6 +21,7 @@ pub struct RealClock<R> {
 }
 
 impl<R: time::Clock> RealClock<R> {
+    /// A clock that reads this runtime's wall clock.
     pub fn new(runtime: R) -> RealClock<R> {
         RealClock { runtime }
     }
