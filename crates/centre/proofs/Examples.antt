@@ -1,5 +1,5 @@
 -- Worked examples of the definitions.
-use Rattle.std.proofs.Common.{◌≡◌, true, false, refl, sym, subst, codes, [], ◌∷◌, ◌++◌, List, None, Some, pos, arith, Ok, Err, Result, inl, inr, ℕ}
+use Rattle.std.proofs.Common.{◌≡◌, false, refl, sym, subst, codes, [], ◌∷◌, ◌++◌, List, None, Some, pos, arith, Ok, Err, Result, inl, inr, ℕ}
 use Rattle.std.proofs.lemmas.Int.{ints}
 use Rattle.exact_time.proofs.Examples.{new_year, next_year}
 use Rattle.exact_time.specs.Decimals.{Unsigned}
@@ -17,9 +17,9 @@ use Rattle.dataselect.specs.declared.query.Selection.{Selection}
 use Rattle.dataselect.specs.Query.{is_selected, is_asked}
 use Rattle.dataselect.specs.Segments.{segment_length}
 use Rattle.centre.specs.Answers.{IsBodyOf, RefusesInput, IsAnswer}
-use Rattle.centre.specs.Commands.{SelectWords, InitWords, select, init, show, is_position, command_of}
+use Rattle.command_words.specs.Commands.{SelectWords, InitWords, select, init, show}
+use Rattle.http_digest.specs.declared.secret.Secret.{Secret}
 use Rattle.centre.specs.Given.{Streams, World, Given}
-use Rattle.centre.specs.OptionsLaw.{named_value, words_of_options}
 use Rattle.centre.specs.Settled.{EndsAs, IsSettled, ComesWhere, HasWritten}
 use Rattle.centre.specs.Status.{status_of, error_text_of}
 use Rattle.streams.specs.View.{StreamView}
@@ -29,40 +29,18 @@ use Rattle.disk_model.specs.Untold.{untold_view}
 use Rattle.centre.specs.Had.{Had}
 use Rattle.centre.specs.Words.{AreSelectOptions, IsSelectQuery, RefusesSelectWords, time_words, option_words}
 use Rattle.centre.proofs.OneQuery.{all_read}
-use Rattle.centre.specs.declared.help.Shown.TheVariants.{Help, Version, SelectHelp}
+use Rattle.command_words.specs.declared.name.Shown.TheVariants.{Version}
 use Rattle.centre.specs.declared.ending.Word.TheVariants.{Network as NetworkWord, Station as StationWord, Location as LocationWord, Channel as ChannelWord}
 use Rattle.centre.specs.declared.ending.Refusal.{Refusal}
 use Rattle.centre.specs.declared.ending.Refusal.TheVariants.{UnknownCommand, Value, Order, Record, NotEmpty}
 use Rattle.centre.specs.declared.ending.Stop.TheVariants.{Refused, ReadFault}
 
-position : is_position (codes "BH?") ≡ true
-position = refl
-
-blank_position : is_position [] ≡ true
-blank_position = refl
-
-no_position : is_position (codes "--") ≡ false
-no_position = refl
-
 out_of_order : status_of (Refused Order) ≡ 2
 out_of_order = refl
 
--- two words are no command, and one may be
-two_words : command_of (codes "select" ∷ codes "IU" ∷ []) ≡ None
-two_words = refl
-
--- `init` with its three options, in any order; an HA1 in upper case makes no command, nor does an option that is left out
+-- what `init` is asked for
 abbrev op_words : InitWords
 op_words = record { journal = codes "a.journal"; operator = codes "op"; ha1 = codes "939e7578ed9e3c518a452acee763bce9" }
-
-init_asked : command_of (codes "init" ∷ codes "--ha1" ∷ codes "939e7578ed9e3c518a452acee763bce9" ∷ codes "--operator" ∷ codes "op" ∷ codes "--journal" ∷ codes "a.journal" ∷ []) ≡ Some (init op_words)
-init_asked = refl
-
-upper_case : command_of (codes "init" ∷ codes "--journal" ∷ codes "a.journal" ∷ codes "--operator" ∷ codes "op" ∷ codes "--ha1" ∷ codes "939E7578ED9E3C518A452ACEE763BCE9" ∷ []) ≡ None
-upper_case = refl
-
-no_operator : command_of (codes "init" ∷ codes "--journal" ∷ codes "a.journal" ∷ codes "--ha1" ∷ codes "939e7578ed9e3c518a452acee763bce9" ∷ []) ≡ None
-no_operator = refl
 
 -- it makes an archive in an empty file alone
 made : IsAnswer (Some (init op_words)) (record { input = anmo_image; file = [] }) (Ok [])
@@ -71,16 +49,10 @@ made = (refl, refl)
 not_made : IsAnswer (Some (init op_words)) (record { input = []; file = codes "abc" }) (Err NotEmpty)
 not_made = λ e. cc
 
-help_asked : command_of (codes "--help" ∷ []) ≡ Some (show Help)
-help_asked = refl
-
-select_help_asked : command_of (codes "select" ∷ codes "--help" ∷ []) ≡ Some (show SelectHelp)
-select_help_asked = refl
-
 version_asked : IsAnswer (Some (show Version)) (record { input = []; file = [] }) (Ok (codes "centre 0.1.0\n"))
 version_asked = refl
 
--- seven words are, where none of them begins with a hyphen
+-- what `select` is asked for
 abbrev six_words : SelectWords
 six_words = record {
   network = codes "IU";
@@ -94,32 +66,6 @@ six_words = record {
   longest = codes "false";
   limit = 67_108_864;
 }
-
-seven_words : command_of (codes "select" ∷ codes "IU" ∷ codes "AN*" ∷ codes ",00" ∷ codes "BH?" ∷ codes "2024-01-01" ∷ codes "2024-01-01" ∷ []) ≡ Some (select six_words)
-seven_words = refl
-
-hyphens : command_of (codes "select" ∷ codes "IU" ∷ codes "AN*" ∷ codes "--" ∷ codes "BH?" ∷ codes "2024-01-01" ∷ codes "2024-01-01" ∷ []) ≡ None
-hyphens = refl
-
--- options in any order, each once
-abbrev with_options : List (List ℕ) → List (List ℕ)
-with_options options = codes "select" ∷ codes "IU" ∷ codes "AN*" ∷ codes ",00" ∷ codes "BH?" ∷ codes "2024-01-01" ∷ codes "2024-01-01" ∷ options
-
-options : command_of (with_options (codes "--max-bytes" ∷ codes "511" ∷ codes "--minimum" ∷ codes "-1" ∷ [])) ≡ Some (select (record six_words { minimum = codes "-1"; limit = 511 }))
-options = refl
-
-twice : command_of (with_options (codes "--quality" ∷ codes "R" ∷ codes "--quality" ∷ codes "R" ∷ [])) ≡ None
-twice = refl
-
-no_value : command_of (with_options (codes "--quality" ∷ [])) ≡ None
-no_value = refl
-
-limit_of_0 : command_of (with_options (codes "--max-bytes" ∷ codes "0" ∷ [])) ≡ None
-limit_of_0 = refl
-
--- the words of two options, each a name with its value
-words_of_two : words_of_options (named_value (codes "--max-bytes") (codes "511") ∷ named_value (codes "--minimum") (codes "-1") ∷ []) ≡ codes "--max-bytes" ∷ codes "511" ∷ codes "--minimum" ∷ codes "-1" ∷ []
-words_of_two = refl
 
 -- the query of some words
 any_options : (w : SelectWords) → w.quality ≡ codes "B" → w.minimum ≡ codes "0" → w.longest ≡ codes "false" → AreSelectOptions w None 0 false
@@ -283,7 +229,7 @@ streams_before = record {
 }
 
 abbrev before : World (Unit {0})
-before = record { streams = streams_before; disk = tt }
+before = record { streams = streams_before; disk = tt; given = None; trail = None }
 
 abbrev streams_after : Streams
 streams_after = record {
@@ -292,7 +238,7 @@ streams_after = record {
 }
 
 abbrev after : World (Unit {0})
-after = record { streams = streams_after; disk = tt }
+after = record { streams = streams_after; disk = tt; given = None; trail = None }
 
 selected : IsSelected words streams_before streams_after
 selected = record { input = anmo_image; body = anmo_image; had = refl; answer = answer; end = refl; output = refl }
@@ -309,8 +255,8 @@ told = record { left = None; written = Some (codes "centre: unknown command line
 told_unknown : Tells silent told (codes "centre: unknown command line\n")
 told_unknown = record { part = record { part = codes "centre: unknown command line\n"; rest = []; split = refl; output = refl }; whole = inl refl }
 
-run : IsRun no_disk None before before silent told 1
-run = record { ending = Err (Refused UnknownCommand); row = refl; status_is = refl; text = told_unknown }
+run : (secret : Secret) → IsRun no_disk secret None before before silent told 1
+run secret = record { ending = Err (Refused UnknownCommand); row = inr refl; status_is = refl; text = told_unknown }
 
 -- what words that are no command determine, whatever the input
 ends : EndsAs (Err UnknownCommand) silent told 1

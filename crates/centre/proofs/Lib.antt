@@ -1,12 +1,13 @@
-pub mod Arguments
+pub mod Cases
+pub mod Finished
 pub mod Examples
-pub mod InitWords
 pub mod Inputs
 pub mod OneAnswer
+pub mod OneEnding
 pub mod OneQuery
-pub mod Options
+pub mod OneTalk
 pub mod Rows
 pub mod SelectWords
+pub mod Settling
 pub mod Shelved
 pub mod SomeAnswer
-pub mod Settling

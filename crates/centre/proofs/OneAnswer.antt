@@ -8,11 +8,12 @@ use Rattle.mseed_header.proofs.Rows.{one_batch, one_first_bad, no_batch}
 use Rattle.dataselect.specs.declared.query.DataQuery.{DataQuery}
 use Rattle.centre.specs.Limits.{most_input}
 use Rattle.centre.specs.declared.ending.Refusal.{Refusal}
-use Rattle.centre.specs.declared.ending.Refusal.TheVariants.{UnknownCommand, Value, Order, Record, NoData, TooLarge, InputTooLong, NotEmpty}
+use Rattle.centre.specs.declared.ending.Refusal.TheVariants.{UnknownCommand, Value, Order, Record, NoData, TooLarge, InputTooLong, NotEmpty, NotAJournal, Damaged, RequestCut}
 use Rattle.centre.specs.Answers.{IsBodyOf, HasBadRecord, RefusesInput, IsSelectAnswer, IsInitAnswer, IsAnswer, places_for, body_for, epoch}
-use Rattle.centre.specs.Commands.{SelectWords, Command, select, init, show}
+use Rattle.command_words.specs.Commands.{SelectWords, Command, select, init, talk, show}
 use Rattle.centre.specs.Given.{Given}
 use Rattle.centre.specs.Words.{IsSelectQuery}
+use Rattle.centre.proofs.OneTalk.{one_talk}
 use Rattle.centre.proofs.OneQuery.{one_query, no_refusal, one_refusal}
 
 -- what picked places and their bytes give within a limit
@@ -86,6 +87,9 @@ found query limit input (Err UnknownCommand) h = absurd h
 found query limit input (Err (Value word)) h = absurd h
 found query limit input (Err Order) h = absurd h
 found query limit input (Err NotEmpty) h = absurd h
+found query limit input (Err NotAJournal) h = absurd h
+found query limit input (Err (Damaged at)) h = absurd h
+found query limit input (Err RequestCut) h = absurd h
 
 one_found : (query : DataQuery) (limit : ℕ) (input : List ℕ) (a b : Result (List ℕ) Refusal) → Found query limit input a → Found query limit input b → a ≡ b
 one_found query limit input a b (whole h) (whole k) =
@@ -135,9 +139,13 @@ made_by file (Err (Record at fault)) h = absurd h
 made_by file (Err NoData) h = absurd h
 made_by file (Err (TooLarge bytes limit)) h = absurd h
 made_by file (Err InputTooLong) h = absurd h
+made_by file (Err NotAJournal) h = absurd h
+made_by file (Err (Damaged at)) h = absurd h
+made_by file (Err RequestCut) h = absurd h
 
 pub one_answer : (command : Option Command) (given : Given) (a b : Result (List ℕ) Refusal) → IsAnswer command given a → IsAnswer command given b → a ≡ b
 one_answer None given a b h k = h ∙ sym k
 one_answer (Some (show shown)) given a b h k = h ∙ sym k
 one_answer (Some (select w)) given a b h k = one_select w given.input a b h k
 one_answer (Some (init w)) given a b h k = made_by given.file a h ∙ sym (made_by given.file b k)
+one_answer (Some (talk w)) given a b h k = one_talk given.file given.input a b h k

@@ -11,8 +11,8 @@ use Rattle.mseed_header.specs.declared.quality.Quality.{Quality}
 use Rattle.dataselect.specs.declared.query.DataQuery.{DataQuery}
 use Rattle.dataselect.specs.declared.query.Selection.{Selection}
 use Rattle.centre.specs.declared.ending.Refusal.{Refusal}
-use Rattle.centre.specs.declared.ending.Refusal.TheVariants.{UnknownCommand, Value, Order, Record, NoData, TooLarge, InputTooLong, NotEmpty}
-use Rattle.centre.specs.Commands.{SelectWords}
+use Rattle.centre.specs.declared.ending.Refusal.TheVariants.{UnknownCommand, Value, Order, Record, NoData, TooLarge, InputTooLong, NotEmpty, NotAJournal, Damaged, RequestCut}
+use Rattle.command_words.specs.Commands.{SelectWords}
 use Rattle.query_parameters.specs.Values.{quality_of, flag_of}
 use Rattle.query_parameters.proofs.Minimums.{one_minimum}
 use Rattle.centre.specs.Words.{CanReadWord, CanReadWords, time_words, option_words, tested_words, IsNamed, IsSelectWindow, AreSelectOptions, IsSelectQuery, HasTimesTurned, RefusesSelectWords}
@@ -71,6 +71,9 @@ no_refusal w q NoData h k = k
 no_refusal w q (TooLarge bytes limit) h k = k
 no_refusal w q InputTooLong h k = k
 no_refusal w q NotEmpty h k = k
+no_refusal w q NotAJournal h k = k
+no_refusal w q (Damaged at) h k = k
+no_refusal w q RequestCut h k = k
 
 pub one_refusal : (w : SelectWords) (r s : Refusal) → RefusesSelectWords w r → RefusesSelectWords w s → r ≡ s
 one_refusal w (Value a) (Value b) h k = ap Value (one_without (CanReadWord w) tested_words a b h k)
@@ -83,9 +86,15 @@ one_refusal w r NoData h k = absurd k
 one_refusal w r (TooLarge bytes limit) h k = absurd k
 one_refusal w r InputTooLong h k = absurd k
 one_refusal w r NotEmpty h k = absurd k
+one_refusal w r NotAJournal h k = absurd k
+one_refusal w r (Damaged at) h k = absurd k
+one_refusal w r RequestCut h k = absurd k
 one_refusal w UnknownCommand s h k = absurd h
 one_refusal w (Record at fault) s h k = absurd h
 one_refusal w NoData s h k = absurd h
 one_refusal w (TooLarge bytes limit) s h k = absurd h
 one_refusal w InputTooLong s h k = absurd h
 one_refusal w NotEmpty s h k = absurd h
+one_refusal w NotAJournal s h k = absurd h
+one_refusal w (Damaged at) s h k = absurd h
+one_refusal w RequestCut s h k = absurd h

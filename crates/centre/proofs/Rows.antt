@@ -16,17 +16,24 @@ use Rattle.dataselect.specs.Rows.{held_rows}
 use Rattle.dataselect.proofs.Fewer.{only_asked}
 use Rattle.dataselect.specs.DataBody.{answer_of, body_or_empty, images_at, RefusesAs}
 use Rattle.centre.specs.Limits.{most_input}
-use Rattle.centre.specs.declared.ending.Refusal.TheVariants.{UnknownCommand, Value, Order, Record, NoData, TooLarge, InputTooLong, NotEmpty}
+use Rattle.centre.specs.declared.ending.Refusal.TheVariants.{UnknownCommand, Value, Order, Record, NoData, TooLarge, InputTooLong, NotEmpty, NotAJournal, Damaged, RequestCut}
 use Rattle.centre.specs.declared.ending.Stop.{Stop}
 use Rattle.centre.specs.declared.ending.Stop.TheVariants.{Refused, ReadFault, WriteFault, DiskFault, OutOfMemory}
 use Rattle.centre.specs.Answers.{IsBodyOf, RefusesInput, places_for, all_seen, stop_for_data}
 use Rattle.streams.specs.Effects.{Grew, WritesPart}
 use Rattle.streams.specs.View.{StreamView}
-use Rattle.centre.specs.Commands.{SelectWords, InitWords, Command, select, init, show}
+use Rattle.command_words.specs.Commands.{SelectWords, InitWords, TalkWords, Command, select, init, talk, show}
 use Rattle.centre.specs.Shown.{text_shown}
-use Rattle.centre.specs.Given.{Streams, World}
-use Rattle.centre.specs.Table.{Tells, IsInit, SelectRow, ShowRow, InitRow, UnknownRow, IsEnding, ToldFor, stop_for_founding}
+use Rattle.centre.specs.Given.{Streams, World, place_at}
+use Rattle.centre.specs.Table.{Tells, IsInit, SelectRow, ShowRow, InitRow, UnknownRow, IsStarved, IsEnding, ToldFor, stop_for_founding}
 use Rattle.centre.specs.declared.ending.Refusal.{Refusal}
+use Rattle.http_digest.specs.declared.secret.Secret.{Secret}
+use Rattle.http_wire.specs.declared.turn.Turn.{Turn}
+use Rattle.archive_log.specs.declared.fault.StartFault.TheVariants as start
+use Rattle.centre_talk.specs.Talk.{Place, NotOpened}
+use Rattle.centre_talk.specs.declared.ending.TalkStop.{TalkStop}
+use Rattle.centre_talk.specs.declared.ending.TalkStop.TheVariants as talk_stop
+use Rattle.centre.specs.Talks.{IsTalk, TalkEnding, stop_for_talk}
 use Rattle.centre.specs.Had.{Had}
 use Rattle.centre.specs.Intake.{AreAsked, HasTaken, IntakeStops}
 use Rattle.centre.proofs.Inputs.{had_all}
@@ -50,6 +57,9 @@ read_row w query before after OutOfMemory asked kept why = kept
 read_row w query before after WriteFault asked kept why = absurd why
 read_row w query before after DiskFault asked kept why = absurd why
 read_row w query before after (Refused NotEmpty) asked kept why = absurd why
+read_row w query before after (Refused NotAJournal) asked kept why = absurd why
+read_row w query before after (Refused (Damaged at)) asked kept why = absurd why
+read_row w query before after (Refused RequestCut) asked kept why = absurd why
 read_row w query before after (Refused UnknownCommand) asked kept why = absurd why
 read_row w query before after (Refused (Value word)) asked kept why = absurd why
 read_row w query before after (Refused Order) asked kept why = absurd why
@@ -90,6 +100,9 @@ told_select w before after (Refused Order) told row e = let P : Stop → Type 0 
 told_select w before after (Refused NoData) told row e = let P : Stop → Type 0 = λ s. SelectRow w before after (Err s) in subst P (sym e) row
 told_select w before after (Refused InputTooLong) told row e = let P : Stop → Type 0 = λ s. SelectRow w before after (Err s) in subst P (sym e) row
 told_select w before after (Refused NotEmpty) told row e = let P : Stop → Type 0 = λ s. SelectRow w before after (Err s) in subst P (sym e) row
+told_select w before after (Refused NotAJournal) told row e = let P : Stop → Type 0 = λ s. SelectRow w before after (Err s) in subst P (sym e) row
+told_select w before after (Refused (Damaged at)) told row e = made_row w before after (Damaged at) told row e
+told_select w before after (Refused RequestCut) told row e = let P : Stop → Type 0 = λ s. SelectRow w before after (Err s) in subst P (sym e) row
 told_select w before after DiskFault told row e = absurd row
 told_select w before after ReadFault told row e = let P : Stop → Type 0 = λ s. SelectRow w before after (Err s) in subst P (sym e) row
 told_select w before after WriteFault told row e = let P : Stop → Type 0 = λ s. SelectRow w before after (Err s) in subst P (sym e) row
@@ -111,6 +124,9 @@ told_unknown before after (Refused NoData) told row e = absurd row
 told_unknown before after (Refused (TooLarge bytes limit)) told row e = absurd row
 told_unknown before after (Refused InputTooLong) told row e = absurd row
 told_unknown before after (Refused NotEmpty) told row e = absurd row
+told_unknown before after (Refused NotAJournal) told row e = absurd row
+told_unknown before after (Refused (Damaged at)) told row e = absurd row
+told_unknown before after (Refused RequestCut) told row e = absurd row
 told_unknown before after ReadFault told row e = absurd row
 told_unknown before after DiskFault told row e = absurd row
 told_unknown before after WriteFault told row e = absurd row
@@ -127,14 +143,75 @@ told_init view w before after (Refused (Record at fault)) told row e = absurd ro
 told_init view w before after (Refused NoData) told row e = absurd row
 told_init view w before after (Refused (TooLarge bytes limit)) told row e = absurd row
 told_init view w before after (Refused InputTooLong) told row e = absurd row
+told_init view w before after (Refused NotAJournal) told row e = absurd row
+told_init view w before after (Refused (Damaged at)) told row e = absurd row
+told_init view w before after (Refused RequestCut) told row e = absurd row
 told_init view w before after ReadFault told row e = absurd row
 told_init view w before after WriteFault told row e = absurd row
 
-pub told_row : {D : Type 0} (view : D → DiskView) (command : Option Command) (before after : World D) (stop told : Stop) → IsEnding view command before after (Err stop) → ToldFor stop told → IsEnding view command before after (Err told)
-told_row view None before after stop told row e = told_unknown before after stop told row e
-told_row view (Some (show shown)) before after stop told row e = (told_show (text_shown shown) before.streams after.streams stop told row.0 e, row.1)
-told_row view (Some (select w)) before after stop told row e = (told_select w before.streams after.streams stop told row.0 e, row.1)
-told_row view (Some (init w)) before after stop told row e = told_init view w before after stop told row e
+-- a journal that is damaged wasn't opened, and neither was it where memory runs out for the text that says so
+damaged_starved : (before after : Place) (trail : Option (List Turn)) (at : ℕ) → NotOpened before after trail (start.Damaged at) → NotOpened before after trail start.OutOfMemory
+damaged_starved before after trail at row = record {
+  no_trail = row.no_trail;
+  source = row.source;
+  sink = row.sink;
+  given = row.given;
+  disk = record { tells = row.disk.tells; later = row.disk.later; cause = λ bad. absurd (cc); told = row.disk.told };
+  why = λ told. tt;
+}
+
+-- a session over streams stops a run so
+pub talk_row : {D : Type 0} (view : D → DiskView) (secret : Secret) (w : TalkWords) (before after : World D) (stop : TalkStop) → IsTalk view secret w before after (Err stop) → TalkEnding view secret w before after (Err (stop_for_talk stop))
+talk_row view secret w before after talk_stop.ReadFault row = row
+talk_row view secret w before after talk_stop.WriteFault row = row
+talk_row view secret w before after talk_stop.DiskFault row = row
+talk_row view secret w before after talk_stop.OutOfMemory row = row
+talk_row view secret w before after talk_stop.RequestCut row = row
+talk_row view secret w before after talk_stop.NotAJournal row = row
+talk_row view secret w before after (talk_stop.Damaged at) row = row
+
+starved_talk : {D : Type 0} (view : D → DiskView) (secret : Secret) (w : TalkWords) (before after : World D) (at : ℕ) → IsTalk view secret w before after (Err (talk_stop.Damaged at)) → IsTalk view secret w before after (Err talk_stop.OutOfMemory)
+starved_talk view secret w before after at row =
+    record { limits = row.limits; limits_are = row.limits_are; row = inl (damaged_starved (place_at view before) (place_at view after) after.trail at row.row) }
+
+told_talk : {D : Type 0} (view : D → DiskView) (secret : Secret) (w : TalkWords) (before after : World D) (stop told : Stop) → TalkEnding view secret w before after (Err stop) → ToldFor stop told → TalkEnding view secret w before after (Err told)
+told_talk view secret w before after (Refused (Damaged at)) told row (inl same) = let P : Stop → Type 0 = λ s. TalkEnding view secret w before after (Err s) in subst P (sym same) row
+told_talk view secret w before after (Refused (Damaged at)) told row (inr none) =
+    let P : Stop → Type 0 = λ s. TalkEnding view secret w before after (Err s) in subst P (sym none) (starved_talk view secret w before after at row)
+told_talk view secret w before after (Refused RequestCut) told row e = let P : Stop → Type 0 = λ s. TalkEnding view secret w before after (Err s) in subst P (sym e) row
+told_talk view secret w before after (Refused NotAJournal) told row e = let P : Stop → Type 0 = λ s. TalkEnding view secret w before after (Err s) in subst P (sym e) row
+told_talk view secret w before after ReadFault told row e = let P : Stop → Type 0 = λ s. TalkEnding view secret w before after (Err s) in subst P (sym e) row
+told_talk view secret w before after WriteFault told row e = let P : Stop → Type 0 = λ s. TalkEnding view secret w before after (Err s) in subst P (sym e) row
+told_talk view secret w before after DiskFault told row e = let P : Stop → Type 0 = λ s. TalkEnding view secret w before after (Err s) in subst P (sym e) row
+told_talk view secret w before after OutOfMemory told row e = let P : Stop → Type 0 = λ s. TalkEnding view secret w before after (Err s) in subst P (sym e) row
+told_talk view secret w before after (Refused UnknownCommand) told row e = absurd row
+told_talk view secret w before after (Refused (Value word)) told row e = absurd row
+told_talk view secret w before after (Refused Order) told row e = absurd row
+told_talk view secret w before after (Refused (Record at fault)) told row e = absurd row
+told_talk view secret w before after (Refused NoData) told row e = absurd row
+told_talk view secret w before after (Refused (TooLarge bytes limit)) told row e = absurd row
+told_talk view secret w before after (Refused InputTooLong) told row e = absurd row
+told_talk view secret w before after (Refused NotEmpty) told row e = absurd row
+
+told_command : {D : Type 0} (view : D → DiskView) (secret : Secret) (command : Option Command) (before after : World D) (stop told : Stop) → IsEnding view secret command before after (Err stop) → ToldFor stop told → IsEnding view secret command before after (Err told)
+told_command view secret None before after stop told row e = told_unknown before after stop told row e
+told_command view secret (Some (show shown)) before after stop told row e = (told_show (text_shown shown) before.streams after.streams stop told row.0 e, row.1)
+told_command view secret (Some (select w)) before after stop told row e = (told_select w before.streams after.streams stop told row.0 e, row.1)
+told_command view secret (Some (init w)) before after stop told row e = told_init view w before after stop told row e
+told_command view secret (Some (talk w)) before after stop told row e = told_talk view secret w before after stop told row e
+
+told_starved : {D : Type 0} (before after : World D) (stop told : Stop) → IsStarved before after (Err stop) → ToldFor stop told → IsStarved before after (Err told)
+told_starved before after OutOfMemory told row e = (ap Err e, row.1)
+told_starved before after ReadFault told row e = let bad = row.0 in absurd cc
+told_starved before after WriteFault told row e = let bad = row.0 in absurd cc
+told_starved before after DiskFault told row e = let bad = row.0 in absurd cc
+told_starved before after (Refused refusal) told row e = let bad = row.0 in absurd cc
+
+-- what is told has a row of the table
+pub told_row : {D : Type 0} (view : D → DiskView) (secret : Secret) (command : Option Command) (before after : World D) (stop told : Stop) → IsStarved before after (Err stop) ⊎ IsEnding view secret command before after (Err stop) → ToldFor stop told
+    → IsStarved before after (Err told) ⊎ IsEnding view secret command before after (Err told)
+told_row view secret command before after stop told (inl row) e = inl (told_starved before after stop told row e)
+told_row view secret command before after stop told (inr row) e = inr (told_command view secret command before after stop told row e)
 
 -- what a call of the disk founded, whatever is given beside it
 pub founded_as : {A B : Type 0} (e : Entry) (old new : DiskView) (a : A) (b : B) → MakesArchive e old new (Ok a) → MakesArchive e old new (Ok b)

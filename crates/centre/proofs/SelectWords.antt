@@ -11,7 +11,7 @@ use Rattle.centre.specs.declared.ending.Refusal.{Refusal}
 use Rattle.centre.specs.declared.ending.Refusal.TheVariants.{Value}
 use Rattle.centre.specs.declared.ending.Stop.{Stop}
 use Rattle.centre.specs.declared.ending.Stop.TheVariants.{Refused, ReadFault, WriteFault, DiskFault, OutOfMemory as NoMemory}
-use Rattle.centre.specs.Commands.{SelectWords}
+use Rattle.command_words.specs.Commands.{SelectWords}
 use Rattle.centre.specs.Words.{CanReadWord, CanReadWords, IsList, RefusesSelectWords, StopsWith, tested_words, stop_for}
 
 -- a fault of a code word is no pattern list

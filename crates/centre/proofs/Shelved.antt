@@ -20,7 +20,7 @@ use Rattle.dataselect.specs.Query.{is_asked}
 use Rattle.dataselect.specs.Rows.{held_rows, with_row}
 use Rattle.dataselect.proofs.Held.{held_more, length_with}
 use Rattle.centre.specs.Limits.{most_input}
-use Rattle.centre.specs.declared.ending.Refusal.TheVariants.{UnknownCommand, Value, Order, Record, NoData, TooLarge, InputTooLong, NotEmpty}
+use Rattle.centre.specs.declared.ending.Refusal.TheVariants.{UnknownCommand, Value, Order, Record, NoData, TooLarge, InputTooLong, NotEmpty, NotAJournal, Damaged, RequestCut}
 use Rattle.centre.specs.declared.ending.Stop.{Stop}
 use Rattle.centre.specs.declared.ending.Stop.TheVariants.{Refused, ReadFault, WriteFault, DiskFault, OutOfMemory}
 use Rattle.centre.specs.Answers.{epoch}
@@ -186,6 +186,9 @@ taken_bad query old new total rest place fault held (Refused NoData) end bad far
 taken_bad query old new total rest place fault held (Refused (TooLarge bytes limit)) end bad far = absurd bad
 taken_bad query old new total rest place fault held (Refused InputTooLong) end bad far = absurd bad
 taken_bad query old new total rest place fault held (Refused NotEmpty) end bad far = absurd bad
+taken_bad query old new total rest place fault held (Refused NotAJournal) end bad far = absurd bad
+taken_bad query old new total rest place fault held (Refused (Damaged at)) end bad far = absurd bad
+taken_bad query old new total rest place fault held (Refused RequestCut) end bad far = absurd bad
 taken_bad query old new total rest place fault held DiskFault end bad far = absurd bad
 taken_bad query old new total rest place fault held ReadFault end bad far = absurd bad
 taken_bad query old new total rest place fault held WriteFault end bad far = absurd bad

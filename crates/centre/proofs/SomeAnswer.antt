@@ -28,8 +28,12 @@ use Rattle.centre.specs.declared.ending.Word.{Word}
 use Rattle.centre.specs.declared.ending.Word.TheVariants as word
 use Rattle.centre.specs.declared.ending.Refusal.{Refusal}
 use Rattle.centre.specs.declared.ending.Refusal.TheVariants.{UnknownCommand, Value, Order, Record, NoData, TooLarge, InputTooLong, NotEmpty}
-use Rattle.centre.specs.Answers.{IsSelectAnswer, IsAnswer, places_for, body_for, epoch}
-use Rattle.centre.specs.Commands.{Text, SelectWords, Command, select, init, show}
+use Rattle.epochs.specs.Kinds.{Text}
+use Rattle.centre.proofs.OneTalk.{some_talk, some_refusal}
+use Rattle.centre.specs.Talks.{OpensOrNot, EndsWith, IsTalkAnswer}
+use Rattle.centre_session.specs.Items.{Ending}
+use Rattle.centre.specs.Answers.{IsSelectAnswer, IsAnswer, IsReadThrough, places_for, body_for, epoch}
+use Rattle.command_words.specs.Commands.{SelectWords, Command, select, init, talk, show}
 use Rattle.centre.specs.Given.{Given}
 use Rattle.centre.specs.Shown.{text_shown}
 use Rattle.centre.specs.Limits.{most_input}
@@ -186,8 +190,13 @@ some_select w input cut =
       | inr first ↦ (Err (Value first.0), inl first.1)
     ]
 
-pub some_answer : (command : Option Command) (given : Given) → AreOctets given.input → (answer : Result (List ℕ) Refusal) × IsAnswer command given answer
-some_answer None given octets = (Err UnknownCommand, refl)
-some_answer (Some (show shown)) given octets = (Ok (text_shown shown), refl)
-some_answer (Some (select w)) given octets = some_select w given.input (cut_up given.input octets)
-some_answer (Some (init w)) given octets = elim (empty_or_not given.file) [ inl none ↦ (Ok [], (none, refl)) | inr some ↦ (Err NotEmpty, some) ]
+by_talk : (given : Given) → OpensOrNot given.file → (ending : Ending) × EndsWith given.input ending → (answer : Result (List ℕ) Refusal) × IsTalkAnswer given.file given.input answer
+by_talk given (inl opens) ends = some_talk given.file given.input ends.0 (record { history = opens.0; opens = opens.1; ends = ends.1 })
+by_talk given (inr refused) ends = some_refusal given.file given.input refused.0 refused.1
+
+pub some_answer : (command : Option Command) (given : Given) → AreOctets given.input → IsReadThrough command given → (answer : Result (List ℕ) Refusal) × IsAnswer command given answer
+some_answer None given octets through = (Err UnknownCommand, refl)
+some_answer (Some (show shown)) given octets through = (Ok (text_shown shown), refl)
+some_answer (Some (select w)) given octets through = some_select w given.input (cut_up given.input octets)
+some_answer (Some (init w)) given octets through = elim (empty_or_not given.file) [ inl none ↦ (Ok [], (none, refl)) | inr some ↦ (Err NotEmpty, some) ]
+some_answer (Some (talk w)) given octets through = by_talk given through.0 through.1

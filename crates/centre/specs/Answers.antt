@@ -1,5 +1,5 @@
 -- What the words and what they make the program read determine: the body that is written, or why there is none.
-use Rattle.std.specs.Prelude.{◌≡◌, ◌≢◌, ◌⊎◌, ℕ, ◌<◌, ◌≤◌, Bool, true, pos, List, [], length, Option, Some, None, Result, Ok, Err}
+use Rattle.std.specs.Prelude.{◌≡◌, ◌≢◌, ◌⊎◌, ℕ, ◌<◌, ◌≤◌, Bool, true, pos, List, [], length, Option, Some, None, Result, Ok, Err, ⊤}
 use Rattle.exact_time.specs.declared.moment.Moment.{Moment}
 use Rattle.mseed_header.specs.declared.header.RecordFault.{RecordFault}
 use Rattle.mseed_header.specs.declared.row.Row.{Row}
@@ -9,9 +9,11 @@ use Rattle.dataselect.specs.Rows.{held_rows}
 use Rattle.dataselect.specs.DataBody.{data_body}
 use Rattle.dataselect.specs.Picked.{picked_places}
 use Rattle.centre.specs.Limits.{most_input}
-use Rattle.centre.specs.Commands.{SelectWords, Command, select, init, show}
+use Rattle.command_words.specs.Commands.{SelectWords, Command, select, init, talk, show}
 use Rattle.centre.specs.Given.{Given}
 use Rattle.centre.specs.Shown.{text_shown}
+use Rattle.centre.specs.Talks.{IsTalkAnswer, OpensOrNot, EndsWith}
+use Rattle.centre_session.specs.Items.{Ending}
 use Rattle.centre.specs.Words.{IsSelectQuery, RefusesSelectWords}
 use Rattle.dataselect.specs.declared.answers.DataRefusal.{DataRefusal}
 use Rattle.dataselect.specs.declared.answers.DataRefusal.TheVariants.{Empty, TooLarge as TooMuch, OutOfMemory as NoMemory}
@@ -93,9 +95,17 @@ IsInitAnswer file (Ok body) = (file ≡ []) × (body ≡ [])
 IsInitAnswer file (Err NotEmpty) = file ≢ []
 IsInitAnswer file (Err _) = ⊥
 
--- What the words and what is read determine, by cases on the command: what the sink gets, or why it gets nothing.
+-- What the words and what is read determine, by cases on the command: what the sink gets, or why it gets nothing. What
+-- `talk` writes isn't determined by them alone; a session that is served to its end counts as nothing.
 abbrev pub IsAnswer : Option Command → Given → Result (List ℕ) Refusal → Type 0
 IsAnswer None given answer = answer ≡ Err UnknownCommand
 IsAnswer (Some (show shown)) given answer = answer ≡ Ok (text_shown shown)
 IsAnswer (Some (select w)) given answer = IsSelectAnswer w given.input answer
 IsAnswer (Some (init w)) given answer = IsInitAnswer given.file answer
+IsAnswer (Some (talk w)) given answer = IsTalkAnswer given.file given.input answer
+
+-- A session that `talk` read through: the file opens with a history or has its fault, and what was read is a session that
+-- ends. The other commands read whatever there is.
+abbrev pub IsReadThrough : Option Command → Given → Type 0
+IsReadThrough (Some (talk w)) given = OpensOrNot given.file × ((ending : Ending) × EndsWith given.input ending)
+IsReadThrough _ given = ⊤

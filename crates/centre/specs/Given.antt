@@ -1,8 +1,12 @@
 -- What a command reads of the outside, and what is told of it.
-use Rattle.std.specs.Prelude.{◌≡◌, ℕ, List, Option, Some, true, ⊤}
+use Rattle.std.specs.Prelude.{◌≡◌, ℕ, List, Option, Some, true, ⊤, IsSome}
+use Rattle.std.specs.Io.KnownBytes.{Consumes}
+use Rattle.exact_time.specs.declared.moment.Moment.{Moment}
+use Rattle.http_wire.specs.declared.turn.Turn.{Turn}
 use Rattle.disk_model.specs.View.{DiskView, WhereTold}
 use Rattle.streams.specs.View.{StreamView}
-use Rattle.centre.specs.Commands.{Command, select, init}
+use Rattle.centre_talk.specs.Talk.{Place, place}
+use Rattle.command_words.specs.Commands.{Command, select, init, talk}
 use Rattle.centre.specs.Had.{Had}
 
 -- what is told of the source and the sink at one moment
@@ -13,24 +17,38 @@ pub record Streams : Type 0 where
 abbrev pub streams : StreamView → StreamView → Streams
 streams source sink = record { source = source; sink = sink }
 
--- all that a run can reach: the source and the sink, and the disk
+-- all that a run can reach: the source and the sink, the disk, and the moments that the clock gave; and the turns that it
+-- hands back
 pub record World (D : Type 0) : Type 0 where
   pub streams : Streams
   pub disk : D
+  pub given : Option (List Moment)
+  pub trail : Option (List Turn)
 
-abbrev pub world : {D : Type 0} → StreamView → StreamView → D → World D
-world source sink disk = record { streams = streams source sink; disk = disk }
+abbrev pub world : {D : Type 0} → StreamView → StreamView → D → Option (List Moment) → Option (List Turn) → World D
+world source sink disk given trail = record { streams = streams source sink; disk = disk; given = given; trail = trail }
 
--- what a command can read: the input of the source, and the bytes of the disk's file
+-- the same as a session over streams knows it
+abbrev pub place_at : {D : Type 0} → (D → DiskView) → World D → Place
+place_at view w = place w.streams.source w.streams.sink w.given (view w.disk)
+
+-- what a command reads: the input of the source, of which `talk` reads a first part, and the bytes of the disk's file
 pub record Given : Type 0 where
   pub input : List ℕ
   pub file : List ℕ
 
--- What the command reads tells that it held this. `select` reads the source, `init` the disk, and the others nothing.
-abbrev pub AreGiven : {D : Type 0} → (D → DiskView) → Option Command → World D → Given → Type 0
-AreGiven view (Some (select w)) before given = before.streams.source.left ≡ Some given.input
-AreGiven view (Some (init w)) before given = ((view before.disk).tells ≡ true) × ((view before.disk).content ≡ given.file)
-AreGiven view _ before given = ⊤
+-- the disk tells that it held this file
+abbrev pub IsFile : DiskView → List ℕ → Type 0
+IsFile view file = (view.tells ≡ true) × (view.content ≡ file)
+
+-- What the command reads tells that it held this. `select` reads the source to its end, `init` the disk, `talk` both, and
+-- the others nothing.
+abbrev pub AreGiven : {D : Type 0} → (D → DiskView) → Option Command → World D → World D → Given → Type 0
+AreGiven view (Some (select w)) before after given = before.streams.source.left ≡ Some given.input
+AreGiven view (Some (init w)) before after given = IsFile (view before.disk) given.file
+AreGiven view (Some (talk w)) before after given =
+    IsFile (view before.disk) given.file × IsSome before.streams.source.left × Consumes before.streams.source.left after.streams.source.left given.input
+AreGiven view _ before after given = ⊤
 
 -- what the command reads held this, where it tells
 abbrev pub HadGiven : {D : Type 0} → (D → DiskView) → Option Command → World D → Given → Type 0
@@ -39,5 +57,5 @@ HadGiven view (Some (init w)) before given = WhereTold (view before.disk) ((view
 HadGiven view _ before given = ⊤
 
 -- a fact of what the command reads, where that is told
-abbrev pub Told : {D : Type 0} → (D → DiskView) → Option Command → World D → (Given → Type 0) → Type 0
-Told view command before Fact = (given : Given) → AreGiven view command before given → Fact given
+abbrev pub Told : {D : Type 0} → (D → DiskView) → Option Command → World D → World D → (Given → Type 0) → Type 0
+Told view command before after Fact = (given : Given) → AreGiven view command before after given → Fact given

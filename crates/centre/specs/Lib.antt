@@ -1,14 +1,12 @@
 pub mod Answers
-pub mod Arguments
-pub mod Commands
 pub mod Given
 pub mod Had
 pub mod Intake
 pub mod Limits
-pub mod OptionsLaw
 pub mod Outside
 pub mod Settled
 pub mod Shown
 pub mod Status
 pub mod Table
+pub mod Talks
 pub mod Words

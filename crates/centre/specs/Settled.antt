@@ -1,19 +1,23 @@
 -- Which status comes exactly where: what the words and what is read determine, and the status that says so.
-use Rattle.std.specs.Prelude.{◌≡◌, ◌⊎◌, ℕ, List, [], ◌∷◌, Option, Some, Result, Ok, Err, ⊤}
+use Rattle.std.specs.Prelude.{◌≡◌, ◌≢◌, ◌⊎◌, ℕ, List, [], ◌∷◌, Option, None, Some, Result, Ok, Err, ⊤}
 use Rattle.disk_model.specs.Disk.{Leaves}
-use Rattle.disk_model.specs.View.{DiskView}
+use Rattle.disk_model.specs.View.{DiskView, WhereTold}
+use Rattle.http_digest.specs.declared.secret.Secret.{Secret}
 use Rattle.archive_state.specs.Lawful.{founding_entry}
 use Rattle.archive_log.specs.Histories.{Recovers, IsHistoryOf}
 use Rattle.exact_time.specs.Causes.{Rose}
+use Rattle.exact_time.specs.declared.moment.Moment.{Moment}
 use Rattle.centre.specs.declared.ending.Refusal.{Refusal}
-use Rattle.centre.specs.declared.ending.Refusal.TheVariants.{TooLarge}
+use Rattle.centre.specs.declared.ending.Refusal.TheVariants.{NoData, TooLarge, NotEmpty, InputTooLong, NotAJournal, Damaged, RequestCut}
 use Rattle.centre.specs.Answers.{IsAnswer}
-use Rattle.centre.specs.Commands.{InitWords, Command, init}
-use Rattle.centre.specs.Given.{World, Given, HadGiven}
-use Rattle.centre.specs.Status.{status_of_refusal, text_of_refusal}
+use Rattle.command_words.specs.Commands.{InitWords, TalkWords, Command, init, talk}
+use Rattle.centre.specs.Given.{World, Given, HadGiven, Told}
+use Rattle.centre.specs.Status.{status_of_refusal, text_of_refusal, status_of_run}
 use Rattle.streams.specs.Effects.{Grew, WritesPart}
 use Rattle.streams.specs.View.{StreamView}
-use Rattle.centre.specs.Table.{Tells}
+use Rattle.centre.specs.Table.{Tells, IsStarved}
+use Rattle.centre.specs.Talks.{TalkEnding}
+use Rattle.centre.specs.declared.ending.Stop.{Stop}
 
 -- the statuses that these don't determine: a fault of the source, the sink or the disk, want of memory
 abbrev pub IsFree : ℕ → Type 0
@@ -52,13 +56,18 @@ IsComplete view command given before after old new status =
     → ¬ (Rose (view before.disk).faults (view after.disk).faults)
     → (answer : Result (List ℕ) Refusal) → IsAnswer command given answer → (status ≡ 70) ⊎ EndsAs answer old new status
 
--- status 0: the sink got what the command answers to what it read
-pub record HasWritten {D : Type 0} (view : D → DiskView) (command : Option Command) (before after : World D) : Type 0 where
+-- the sink got what the command answers to what it read
+pub record GotAnswer {D : Type 0} (view : D → DiskView) (command : Option Command) (before after : World D) : Type 0 where
   pub given : Given
   pub body : List ℕ
   pub had : HadGiven view command before given
   pub answer : IsAnswer command given (Ok body)
   pub output : Grew before.streams.sink.written after.streams.sink.written body
+
+-- status 0: the sink got the answer; what `talk` wrote is said by its session
+abbrev pub HasWritten : {D : Type 0} → (D → DiskView) → Option Command → World D → World D → Type 0
+HasWritten view (Some (talk w)) before after = ⊤
+HasWritten view command before after = GotAnswer view command before after
 
 -- a word of the query, the order of its times or a record of the input is refused
 pub record IsRefused (command : Option Command) (given : Given) : Type 0 where
@@ -72,14 +81,25 @@ pub record IsTooLarge (command : Option Command) (given : Given) : Type 0 where
   pub limit : ℕ
   pub answer : IsAnswer command given (Err (TooLarge bytes limit))
 
--- status 6: the sink failed, after a first part of what the command answers to what it read
-pub record IsCutShort {D : Type 0} (view : D → DiskView) (command : Option Command) (before after : World D) : Type 0 where
+-- the file isn't one that the command can use: it has bytes where it is to be made, or is no archive where it is to be
+-- opened
+abbrev pub IsNoArchive : Option Command → Given → Type 0
+IsNoArchive command given =
+    IsAnswer command given (Err NotEmpty) ⊎ (IsAnswer command given (Err NotAJournal) ⊎ ((at : ℕ) × IsAnswer command given (Err (Damaged at))))
+
+-- the sink failed, after a first part of what the command answers to what it read
+pub record GotPart {D : Type 0} (view : D → DiskView) (command : Option Command) (before after : World D) : Type 0 where
   pub given : Given
   pub body : List ℕ
   pub had : HadGiven view command before given
   pub answer : IsAnswer command given (Ok body)
   pub rose : Rose before.streams.sink.faults after.streams.sink.faults
   pub output : WritesPart before.streams.sink.written after.streams.sink.written body
+
+-- status 6: the sink failed; what `talk` wrote is said by its session
+abbrev pub IsCutShort : {D : Type 0} → (D → DiskView) → Option Command → World D → World D → Type 0
+IsCutShort view (Some (talk w)) before after = Rose before.streams.sink.faults after.streams.sink.faults
+IsCutShort view command before after = GotPart view command before after
 
 -- the disk reads as the journal of a new archive of this operator, and so does every image
 pub record HoldsNewArchive (view : DiskView) (w : InitWords) : Type 0 where
@@ -94,4 +114,55 @@ pub record KeepsFile (old new : DiskView) : Type 0 where
 -- whatever the status, a command that uses no disk leaves it as it was
 abbrev pub KeepsUnused : {D : Type 0} → Option Command → D → D → Type 0
 KeepsUnused (Some (init w)) old new = ⊤
+KeepsUnused (Some (talk w)) old new = ⊤
 KeepsUnused _ old new = new ≡ old
+
+-- and `talk` alone asks the clock
+abbrev pub AsksNoClock : Option Command → Option (List Moment) → Option (List Moment) → Type 0
+AsksNoClock (Some (talk w)) old new = ⊤
+AsksNoClock _ old new = new ≡ old
+
+-- with every status but 0 and 6 the sink is as before, unless the command is `talk`
+abbrev pub KeepsSink : Option Command → StreamView → StreamView → Type 0
+KeepsSink (Some (talk w)) old new = ⊤
+KeepsSink _ old new = new ≡ old
+
+-- the status of words that are no command comes only there, and always there, unless memory ran out
+pub record IsUnknown (command : Option Command) (status : ℕ) : Type 0 where
+  pub only : status ≡ 1 → command ≡ None
+  pub always : command ≡ None → (status ≡ 70) ⊎ (status ≡ 1)
+
+-- `talk` ended so: a session over the source and the sink on the archive of the disk, or none for its cause
+pub record HasEndedTalk {D : Type 0} (view : D → DiskView) (secret : Secret) (w : TalkWords) (before after : World D) (status : ℕ) : Type 0 where
+  pub ending : Result (Unit {0}) Stop
+  pub status_is : status ≡ status_of_run ending
+  pub row : IsStarved before after ending ⊎ TalkEnding view secret w before after ending
+
+-- What a reader looks for in a run, row by row.
+pub record RunRows {D : Type 0} (view : D → DiskView) (secret : Secret) (command : Option Command) (before after : World D) (old new : StreamView) (status : ℕ) : Type 0 where
+  -- what the words and what is read determine is what comes, with its text, unless the source, the sink or the disk failed
+  -- or memory ran out; and where none of them failed, unless memory ran out
+  pub settled : Told view command before after (λ given. IsSettled command given old new status)
+  pub complete : Told view command before after (λ given. IsComplete view command given before after old new status)
+  -- with every status but 0 and 6 the sink is as before, unless the command is `talk`; what a command doesn't use stays as
+  -- it was
+  pub kept : status ≢ 0 → status ≢ 6 → KeepsSink command before.streams.sink after.streams.sink
+  pub unused : KeepsUnused command before.disk after.disk
+  pub clock : AsksNoClock command before.given after.given
+  -- status 0: the sink got the answer; `init` left the new archive on the disk
+  pub written : status ≡ 0 → HasWritten view command before after
+  pub founded : (w : InitWords) → command ≡ Some (init w) → status ≡ 0 → WhereTold (view before.disk) (HoldsNewArchive (view after.disk) w)
+  -- `talk`, with whatever status
+  pub talked : (w : TalkWords) → command ≡ Some (talk w) → HasEndedTalk view secret w before after status
+  -- each other status, and its cause
+  pub unknown : IsUnknown command status
+  pub refused : Told view command before after (λ given. ComesWhere status 2 (IsRefused command given))
+  pub no_data : Told view command before after (λ given. ComesWhere status 3 (IsAnswer command given (Err NoData)))
+  pub too_large : Told view command before after (λ given. ComesWhere status 4 (IsTooLarge command given))
+  pub read_fault : status ≡ 5 → Rose before.streams.source.faults after.streams.source.faults
+  pub write_fault : status ≡ 6 → IsCutShort view command before after
+  pub disk_fault : status ≡ 7 → Rose (view before.disk).faults (view after.disk).faults
+  pub no_archive : Told view command before after (λ given. ComesWhere status 9 (IsNoArchive command given))
+  pub untouched : status ≡ 9 → WhereTold (view before.disk) (KeepsFile (view before.disk) (view after.disk))
+  pub too_long : Told view command before after (λ given. ComesWhere status 10 (IsAnswer command given (Err InputTooLong)))
+  pub request_cut : Told view command before after (λ given. ComesWhere status 11 (IsAnswer command given (Err RequestCut)))

@@ -1,11 +1,17 @@
 -- The texts that are shown.
 use Rattle.std.specs.Prelude.{ℕ, List}
-use Rattle.centre.specs.declared.help.Shown.{Shown}
-use Rattle.centre.specs.declared.help.Shown.TheVariants.{Help, Version, SelectHelp, InitHelp}
-use Rattle.centre.specs.declared.help.TheConstants.{HELP, VERSION, SELECT_HELP, INIT_HELP}
+use Rattle.command_words.specs.declared.name.CommandName.{CommandName}
+use Rattle.command_words.specs.declared.name.CommandName.TheVariants.{Select, Init, Talk}
+use Rattle.command_words.specs.declared.name.Shown.{Shown}
+use Rattle.command_words.specs.declared.name.Shown.TheVariants.{Help, Version, HelpOf}
+use Rattle.centre.specs.declared.help.TheConstants.{HELP, VERSION, SELECT_HELP, INIT_HELP, TALK_HELP}
+
+abbrev pub help_of : CommandName → List ℕ
+help_of Select = SELECT_HELP.now
+help_of Init = INIT_HELP.now
+help_of Talk = TALK_HELP.now
 
 abbrev pub text_shown : Shown → List ℕ
 text_shown Help = HELP.now
 text_shown Version = VERSION.now
-text_shown SelectHelp = SELECT_HELP.now
-text_shown InitHelp = INIT_HELP.now
+text_shown (HelpOf command) = help_of command

@@ -1,12 +1,11 @@
 -- The exit statuses, and the texts on the errors.
 use Rattle.std.specs.Prelude.{ℕ, List, [], ◌++◌, codes, Result, Ok, Err}
 use Rattle.std.specs.Fmt.{decimal}
-use Rattle.mseed_header.specs.declared.header.RecordFault.{RecordFault}
 use Rattle.mseed_header.specs.FaultNames.{record_fault_name}
 use Rattle.centre.specs.declared.ending.Word.{Word}
 use Rattle.centre.specs.declared.ending.Word.TheVariants.{Network, Station, Location, Channel, Start, End, Quality, Minimum, Longest}
 use Rattle.centre.specs.declared.ending.Refusal.{Refusal}
-use Rattle.centre.specs.declared.ending.Refusal.TheVariants.{UnknownCommand, Value, Order, Record, NoData, TooLarge, InputTooLong, NotEmpty}
+use Rattle.centre.specs.declared.ending.Refusal.TheVariants.{UnknownCommand, Value, Order, Record, NoData, TooLarge, InputTooLong, NotEmpty, NotAJournal, Damaged, RequestCut}
 use Rattle.centre.specs.declared.ending.Stop.{Stop}
 use Rattle.centre.specs.declared.ending.Stop.TheVariants.{Refused, ReadFault, WriteFault, DiskFault, OutOfMemory}
 
@@ -18,7 +17,10 @@ status_of_refusal (Record at fault) = 2
 status_of_refusal NoData = 3
 status_of_refusal (TooLarge bytes limit) = 4
 status_of_refusal NotEmpty = 9
+status_of_refusal NotAJournal = 9
+status_of_refusal (Damaged at) = 9
 status_of_refusal InputTooLong = 10
+status_of_refusal RequestCut = 11
 
 abbrev pub status_of : Stop → ℕ
 status_of (Refused refusal) = status_of_refusal refusal
@@ -51,7 +53,10 @@ text_of_refusal (Record at fault) = codes "centre: record at offset " ++ decimal
 text_of_refusal NoData = codes "centre: no data\n"
 text_of_refusal (TooLarge bytes limit) = codes "centre: " ++ decimal bytes ++ codes " bytes exceed " ++ decimal limit ++ codes "\n"
 text_of_refusal NotEmpty = codes "centre: journal is not empty\n"
+text_of_refusal NotAJournal = codes "centre: not a journal\n"
+text_of_refusal (Damaged at) = codes "centre: journal damaged at " ++ decimal at ++ codes "\n"
 text_of_refusal InputTooLong = codes "centre: input too long\n"
+text_of_refusal RequestCut = codes "centre: request cut\n"
 
 abbrev pub error_text_of : Stop → List ℕ
 error_text_of (Refused refusal) = text_of_refusal refusal

@@ -4,11 +4,12 @@ use Rattle.std.specs.Io.KnownBytes.{IsAtEnd}
 use Rattle.exact_time.specs.Causes.{Rose}
 use Rattle.dataselect.specs.declared.query.DataQuery.{DataQuery}
 use Rattle.centre.specs.declared.ending.Refusal.{Refusal}
-use Rattle.centre.specs.declared.ending.Refusal.TheVariants.{UnknownCommand, Record, TooLarge, NotEmpty}
+use Rattle.centre.specs.declared.ending.Refusal.TheVariants.{UnknownCommand, Record, TooLarge, NotEmpty, Damaged}
 use Rattle.centre.specs.declared.ending.Stop.{Stop}
 use Rattle.centre.specs.declared.ending.Stop.TheVariants.{Refused, ReadFault, WriteFault, DiskFault, OutOfMemory}
 use Rattle.centre.specs.Answers.{RefusesInput, IsSelectAnswer}
-use Rattle.centre.specs.Commands.{SelectWords, InitWords, Command, select, init, show}
+use Rattle.http_digest.specs.declared.secret.Secret.{Secret}
+use Rattle.command_words.specs.Commands.{SelectWords, InitWords, Command, select, init, talk, show}
 use Rattle.centre.specs.Given.{Streams, World}
 use Rattle.centre.specs.Shown.{text_shown}
 use Rattle.centre.specs.Status.{status_of_run, text_of_run}
@@ -20,6 +21,7 @@ use Rattle.archive_state.specs.Lawful.{founding_entry}
 use Rattle.archive_log.specs.Founding.{MakesArchive}
 use Rattle.archive_log.specs.declared.fault.FoundFault.{FoundFault}
 use Rattle.archive_log.specs.declared.fault.FoundFault.TheVariants as found
+use Rattle.centre.specs.Talks.{TalkEnding}
 use Rattle.centre.specs.Words.{IsSelectQuery, RefusesSelectWords}
 
 -- Status 0 of `select`: the input was read to its end, and the sink got the body that the words and the
@@ -89,10 +91,9 @@ ShowRow text before after (Ok done) = IsShown text before after
 ShowRow text before after (Err WriteFault) = IsShowStopped text before after
 ShowRow text before after (Err _) = ⊥
 
--- What `init` does, with this outcome: neither the source nor the sink is called, and the disk founds the archive of
--- this operator. Where memory runs out, the disk isn't called either.
+-- What `init` does, with this outcome: nothing but the disk is called, and it founds the archive of this operator. Where memory runs out, the disk isn't called either.
 pub record IsInit {D : Type 0} (view : D → DiskView) (w : InitWords) (before after : World D) (outcome : Result (Unit {0}) FoundFault) : Type 0 where
-  pub streams : after.streams ≡ before.streams
+  pub others : after ≡ record before { disk = after.disk }
   pub disk : MakesArchive (founding_entry w.operator w.ha1) (view before.disk) (view after.disk) outcome
   pub memory : IsErrOf outcome found.OutOfMemory → after.disk ≡ before.disk
 
@@ -115,18 +116,22 @@ abbrev pub UnknownRow : {D : Type 0} → World D → World D → Result (Unit {0
 UnknownRow before after (Err (Refused UnknownCommand)) = after ≡ before
 UnknownRow before after _ = ⊥
 
--- The table, by cases on the command: how a run ends, why, and what it leaves. A command that uses no disk leaves it as
--- it was.
-abbrev pub IsEnding : {D : Type 0} → (D → DiskView) → Option Command → World D → World D → Result (Unit {0}) Stop → Type 0
-IsEnding view None before after ending = UnknownRow before after ending
-IsEnding view (Some (show shown)) before after ending = ShowRow (text_shown shown) before.streams after.streams ending × (after.disk ≡ before.disk)
-IsEnding view (Some (select w)) before after ending = SelectRow w before.streams after.streams ending × (after.disk ≡ before.disk)
-IsEnding view (Some (init w)) before after ending = InitRow view w before after ending
+-- The table, by cases on the command: how a run ends, why, and what it leaves. What a command doesn't use it leaves as it
+-- was.
+abbrev pub IsEnding : {D : Type 0} → (D → DiskView) → Secret → Option Command → World D → World D → Result (Unit {0}) Stop → Type 0
+IsEnding view secret None before after ending = UnknownRow before after ending
+IsEnding view secret (Some (show shown)) before after ending =
+    ShowRow (text_shown shown) before.streams after.streams ending × (after ≡ record before { streams = after.streams })
+IsEnding view secret (Some (select w)) before after ending =
+    SelectRow w before.streams after.streams ending × (after ≡ record before { streams = after.streams })
+IsEnding view secret (Some (init w)) before after ending = InitRow view w before after ending
+IsEnding view secret (Some (talk w)) before after ending = TalkEnding view secret w before after ending
 
 -- What a stop is told as: itself, or want of memory where a text with numbers can't be made.
 abbrev pub ToldFor : Stop → Stop → Type 0
 ToldFor (Refused (Record at fault)) told = (told ≡ Refused (Record at fault)) ⊎ (told ≡ OutOfMemory)
 ToldFor (Refused (TooLarge bytes limit)) told = (told ≡ Refused (TooLarge bytes limit)) ⊎ (told ≡ OutOfMemory)
+ToldFor (Refused (Damaged at)) told = (told ≡ Refused (Damaged at)) ⊎ (told ≡ OutOfMemory)
 ToldFor stop told = told ≡ stop
 
 -- the text was written, or a first part of it where the stream failed
@@ -134,9 +139,13 @@ pub record Tells (old new : StreamView) (text : List ℕ) : Type 0 where
   pub part : WritesPart old.written new.written text
   pub whole : Grew old.written new.written text ⊎ Rose old.faults new.faults
 
+-- memory ran out before the words were read: nothing was used
+abbrev pub IsStarved : {D : Type 0} → World D → World D → Result (Unit {0}) Stop → Type 0
+IsStarved before after ending = (ending ≡ Err OutOfMemory) × (after ≡ before)
+
 -- a run from one moment to another with this status, and what it writes on the errors
-pub record IsRun {D : Type 0} (view : D → DiskView) (command : Option Command) (before after : World D) (old new : StreamView) (status : ℕ) : Type 0 where
+pub record IsRun {D : Type 0} (view : D → DiskView) (secret : Secret) (command : Option Command) (before after : World D) (old new : StreamView) (status : ℕ) : Type 0 where
   pub ending : Result (Unit {0}) Stop
-  pub row : IsEnding view command before after ending
+  pub row : IsStarved before after ending ⊎ IsEnding view secret command before after ending
   pub status_is : status ≡ status_of_run ending
   pub text : Tells old new (text_of_run ending)

@@ -20,7 +20,8 @@ use Rattle.centre.specs.declared.ending.Refusal.{Refusal}
 use Rattle.centre.specs.declared.ending.Refusal.TheVariants.{Value, Order}
 use Rattle.centre.specs.declared.ending.Stop.{Stop}
 use Rattle.centre.specs.declared.ending.Stop.TheVariants.{Refused, OutOfMemory}
-use Rattle.centre.specs.Commands.{Text, SelectWords}
+use Rattle.command_words.specs.Commands.{SelectWords}
+use Rattle.epochs.specs.Kinds.{Text}
 
 -- the pattern lists are those that the four code words spell
 pub record IsNamed (w : SelectWords) (s : Selection) : Type 0 where

@@ -33,8 +33,14 @@ pub enum Refusal {
     TooLarge { bytes: u64, limit: u64 },
     /// The file of a journal that is to be made has bytes.
     NotEmpty,
+    /// The file of the archive has fewer than 17 bytes, or another magic.
+    NotAJournal,
+    /// The journal is damaged at this offset.
+    Damaged(u64),
     /// The input has more than [`crate::MAX_INPUT`] bytes.
     InputTooLong,
+    /// The input ended inside a request.
+    RequestCut,
 }
 
 /// Why a run stopped before it was done.
@@ -63,8 +69,9 @@ impl Refusal {
             Refusal::Value(_) | Refusal::Order | Refusal::Record { .. } => 2,
             Refusal::NoData => 3,
             Refusal::TooLarge { .. } => 4,
-            Refusal::NotEmpty => 9,
+            Refusal::NotEmpty | Refusal::NotAJournal | Refusal::Damaged(_) => 9,
             Refusal::InputTooLong => 10,
+            Refusal::RequestCut => 11,
         }
     }
 }

@@ -1,32 +1,27 @@
 //! The texts that the program shows.
 ghost use Rattle.std.specs.Prelude.{◌≡◌};
+ghost use Rattle.centre.specs.Shown.{help_of, text_shown};
 
-/// A text that is shown.
-#[derive(Clone, Copy, Debug, PartialEq, Eq)]
-pub enum Shown {
-    /// By `--help`.
-    Help,
-    /// By `--version`.
-    Version,
-    /// By `select --help`.
-    SelectHelp,
-    /// By `init --help`.
-    InitHelp,
+use command_words::{CommandName, Shown};
+
+fn help_of(command: CommandName) -> &'static str
+    ensures { result.now ≡ help_of command }
+{
+    match command {
+        CommandName::Select => SELECT_HELP,
+        CommandName::Init => INIT_HELP,
+        CommandName::Talk => TALK_HELP,
+    }
 }
 
-impl Shown {
-    ghost use Rattle.centre.specs.Shown.{text_shown};
-
-    /// The text.
-    pub fn text(self) -> &'static str
-        ensures { result.now ≡ text_shown self }
-    {
-        match self {
-            Shown::Help => HELP,
-            Shown::Version => VERSION,
-            Shown::SelectHelp => SELECT_HELP,
-            Shown::InitHelp => INIT_HELP,
-        }
+/// The text that is shown.
+pub(crate) fn text_shown(shown: Shown) -> &'static str
+    ensures { result.now ≡ text_shown shown }
+{
+    match shown {
+        Shown::Help => HELP,
+        Shown::Version => VERSION,
+        Shown::HelpOf(command) => help_of(command),
     }
 }
 
@@ -42,6 +37,8 @@ Usage:
   velkatsa select --help
   velkatsa init --journal F --operator NAME --ha1 HEX
   velkatsa init --help
+  velkatsa talk --journal F [OPTIONS]
+  velkatsa talk --help
   velkatsa --help
   velkatsa --version
 
@@ -51,6 +48,13 @@ its words are read, with an example.
 
 init makes the journal of a new archive in a file. `velkatsa init --help` says
 what its words are, with an example.
+
+talk serves one HTTP connection over standard input and output on an archive:
+the FDSN web services dataselect, station, event and availability, and its
+feeds. `velkatsa talk --help` says how, with an example.
+
+An option is --NAME VALUE or --NAME=VALUE, in any place behind the command, and
+once at most. A value that begins with a hyphen is written --NAME=VALUE.
 
 The program is called velkatsa, and its messages begin with centre:.
 
@@ -65,9 +69,12 @@ Exit status, and the text on standard error:
    5  centre: read fault
    6  centre: write fault
    7  centre: disk fault
-   9  centre: journal is not empty
+   9  centre: journal is not empty; of talk: centre: not a journal,
+      centre: journal damaged at 16
   10  centre: input too long
+  11  centre: request cut: the input of talk ended inside a request
   70  centre: out of memory
+  71  centre: no random bytes
 ";
 
 /// What `init --help` shows: the words of that command.
@@ -110,14 +117,14 @@ equal an earlier one's is left out.
 
   NET STA LOC CHA  lists by commas of codes, in which * is any characters and
                    ? is one. The blank location is an empty word: \"\". It isn't
-                   --, since a word for a position can't begin with a hyphen
+                   --, which ends the options and is no word itself
   START END        YYYY-MM-DD, or YYYY-MM-DDThh:mm:ss with up to six decimals
                    and a final Z if wanted. A record is asked for where its
                    last sample is at START or later and its first at END or
                    earlier. A bare date is its midnight: to END 2024-02-02
                    belongs nothing of that day but its first moment
 
-Options, behind END, each as two words and at most once:
+Options, in any place, each at most once, as --NAME VALUE or --NAME=VALUE:
   --quality Q      D, R, Q or M; B, the default, is any
   --minimum SECS   only segments of at least so many seconds, 0 to 10000000000
                    with up to six decimals; the default is 0. A segment is a
@@ -134,4 +141,32 @@ the list of stations, in which something stands that is no code.
 An example, from the top of the repository, which writes 12 records:
   ./velkatsa select IU ANMO 00 BHZ 2024-02-01 2024-02-02 \\
       < examples/anmo.mseed > chosen.mseed
+";
+
+/// What `talk --help` shows: the words of that command.
+pub const TALK_HELP: &str = "\
+Usage:
+  velkatsa talk --journal F [OPTIONS]
+
+Opens the archive whose journal is the file F and serves one HTTP/1.1
+connection: requests from standard input, replies to standard output, one after
+another, until the input ends or a request closes the connection. Who may post
+is said by the users of the archive, and HTTP Digest says who asks (realm FDSN,
+RFC 2617).
+
+  --journal F        the path of the file, as `velkatsa init` made it. Nothing
+                     else may write it meanwhile
+  --max-bytes N      the most bytes of an answer of records, 1 to 67108864
+  --max-lines N      the most lines of an answer of text, 1 to 100000
+  --max-records N    the most records of the archive, 1 to 2097152
+  --max-archive N    the most bytes of all that was posted, 1 to 536870912
+
+Each limit is its greatest number where it isn't given. The process can be ended
+at any moment: what was answered with 200 is in the journal.
+
+To serve connections over TCP one after another, from the top of the repository:
+  socat TCP-LISTEN:8080,bind=127.0.0.1,reuseaddr,fork,max-children=1 \\
+      EXEC:'./velkatsa talk --journal archive.journal'
+and then, for instance:
+  curl 'http://127.0.0.1:8080/fdsnws/dataselect/1/query?net=IU' -o chosen.mseed
 ";

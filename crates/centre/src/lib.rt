@@ -4,16 +4,17 @@
 //! what they make it read determine (`specs/Answers.antt`) is what comes: with status 0 of `select` the sink got
 //! the data body of the input's records for the query of the words, nothing more and nothing less; with status 0 of
 //! `init` the disk reads as the journal with the founding entry alone, and so does every file that a crash may leave;
-//! and each other status comes where its cause holds (`specs/Settled.antt`), and leaves what the table says
-//! (`specs/Table.antt`). [`outside_of`] says which file the words name.
+//! `talk` is a session over the source and the sink on the archive of the disk (`specs/Talks.antt`); and each other status
+//! comes where its cause holds (`specs/Settled.antt`), and leaves what the table says (`specs/Table.antt`).
+//! [`outside_of`] says which file the words name. Which command the words give is said by `command_words`.
 //!
-//! [`Source`] and [`Sink`], which are those of `streams`, and `Disk` of `disk_model` are what it needs of the outside.
+//! [`Source`] and [`Sink`], which are those of `streams`, `Disk` of `disk_model` and `Clock` of `centre_session` are what
+//! it needs of the outside.
 //! [`MemorySource`] and [`MemorySink`] are such objects in memory, [`StdSource`] and [`StdSink`] adapters
 //! over std's readers and writers.
 #![tactic(auto)]
 
 mod adapters;
-mod commands;
 mod ending;
 mod help;
 mod intake;
@@ -27,8 +28,8 @@ mod words;
 
 pub use adapters::{StdSink, StdSource};
 pub use ending::{Refusal, Stop, Word};
-pub use help::{HELP, INIT_HELP, SELECT_HELP, Shown, VERSION};
-pub use law::{one_answer_at_most, options_are_named_values, some_answer};
+pub use help::{HELP, INIT_HELP, SELECT_HELP, TALK_HELP, VERSION};
+pub use law::{one_answer_at_most, some_answer};
 pub use outside::{Outside, outside_of};
 pub use running::{Ended, run};
 pub use streams::{MemorySink, MemorySource, Sink, Source, Stream};

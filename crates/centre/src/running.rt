@@ -1,24 +1,28 @@
 //! The top call: all that the program does.
-ghost use Rattle.std.specs.Prelude.{◌≡◌, ◌≢◌, ◌↔◌, map, string_bytes, true, None, Some, Err};
-ghost use Rattle.exact_time.specs.Causes.{Rose};
-ghost use Rattle.disk_model.specs.View.{WhereTold};
-ghost use Rattle.epochs.specs.Fields.{is_ha1, is_user_name};
-ghost use Rattle.centre.specs.Answers.{IsAnswer, stop_for_data};
-ghost use Rattle.centre.specs.Commands.{InitWords, command_of, init};
-ghost use Rattle.centre.specs.Arguments.{words_at, init_words_at};
-ghost use Rattle.centre.specs.Given.{Told, streams, world};
-ghost use Rattle.centre.specs.Settled.{ComesWhere, IsComplete, IsCutShort, IsSettled, HasWritten, IsRefused, IsTooLarge, HoldsNewArchive, KeepsFile, KeepsUnused};
-ghost use Rattle.centre.specs.Table.{IsRun, IsEnding, SelectRow, InitRow, ShowRow, stop_for_founding};
+ghost use Rattle.std.specs.Prelude.{◌≡◌, ◌⊎◌, map, option_map, string_bytes, None};
+ghost use Rattle.command_words.specs.Arguments.{words_at, init_words_at, talk_words_at, command_at};
+ghost use Rattle.command_words.specs.Commands.{command_of};
+ghost use Rattle.centre.specs.Answers.{stop_for_data};
+ghost use Rattle.centre.specs.Given.{streams, world};
+ghost use Rattle.centre.specs.Settled.{RunRows};
+ghost use Rattle.centre.specs.Table.{IsRun, IsStarved, IsEnding, SelectRow, InitRow, ShowRow, stop_for_founding};
+ghost use Rattle.centre.specs.Talks.{TalkEnding, stop_for_talk};
 
-use crate::commands::{CommandWords, InitArguments, SelectArguments, command_in};
 use crate::ending::{Refusal, Stop};
+use crate::help::text_shown;
 use crate::intake::take_records;
 use crate::telling::tell_stop;
 use crate::words::select_query;
 use archive_log::{Archive, FoundFault};
+use centre_session::{Clock, Trail};
+use centre_talk::{TalkStop, Talked, talk};
+use command_words::{CommandWords, InitArguments, SelectArguments, TalkArguments, command_in};
 use dataselect::{All, DataRefusal, answer};
 use disk_model::Disk;
+use exact_time::OutOfMemory;
+use http_digest::Secret;
 use std::alloc::Global;
+use std::sync::Wait;
 use streams::{Sink, Source, put_all};
 use time_index::TimeIndex;
 
@@ -86,148 +90,227 @@ fn stop_for_founding(fault: FoundFault) -> Stop
     }
 }
 
-// How a command ended, and the disk.
+// How a session over streams stops the run.
+fn stop_for_talk(stop: TalkStop) -> Stop
+    ensures { result ≡ stop_for_talk stop }
+{
+    match stop {
+        TalkStop::ReadFault => Stop::ReadFault,
+        TalkStop::WriteFault => Stop::WriteFault,
+        TalkStop::DiskFault => Stop::DiskFault,
+        TalkStop::OutOfMemory => Stop::OutOfMemory,
+        TalkStop::RequestCut => Stop::Refused(Refusal::RequestCut),
+        TalkStop::NotAJournal => Stop::Refused(Refusal::NotAJournal),
+        TalkStop::Damaged(at) => Stop::Refused(Refusal::Damaged(at)),
+    }
+}
+
+// How a command ended, the disk, and the turns of a session.
 #[derive(Drop)]
 struct Done<D: Disk> {
     ending: Result<(), Stop>,
     disk: D,
+    trail: Option<Trail>,
 }
 
 // The command `init`: the journal, and the founding entry by one commit.
-fn init<S: Source, K: Sink, D: Disk>(
+fn init<S: Source, K: Sink, D: Disk, C: Clock>(
     alloc: Global,
     arguments: &InitArguments,
     source: &S,
     sink: &K,
     disk: D,
+    clock: &C,
 ) -> Done<D>
-    requires operator { is_user_name arguments.now.operator.now ≡ true }
-    requires ha1 { is_ha1 arguments.now.ha1.now ≡ true }
     ensures row { InitRow D.view (init_words_at arguments.now)
-        (world (S.view source.now) (K.view sink.now) disk) (world (S.view source.now) (K.view sink.now) result.disk)
+        (world (S.view source.now) (K.view sink.now) disk (C.given clock.now) None)
+        (world (S.view source.now) (K.view sink.now) result.disk (C.given clock.now) result.trail)
         result.ending }
 {
     match Archive::found(alloc, disk, arguments.operator, arguments.ha1) {
         Ok(archive) => Done {
             ending: Ok(()),
             disk: archive.close(),
+            trail: None,
         },
         Err((disk, fault)) => Done {
             ending: Err(stop_for_founding(fault)),
             disk,
+            trail: None,
         },
     }
 }
 
-// Does what the words ask for.
-fn obey<S: Source, K: Sink, D: Disk>(
+// The command `talk`: one session over the source and the sink.
+fn serve<R: Wait, S: Source, K: Sink, D: Disk, C: Clock>(
+    rt: &R,
     alloc: Global,
-    words: &[String],
+    arguments: &TalkArguments,
+    secret: &Secret,
     source: &mut S,
     sink: &mut K,
     disk: D,
+    clock: &mut C,
 ) -> Done<D>
-    ensures row { IsEnding D.view (command_of (map string_bytes words.now))
-        (world (S.view source.old) (K.view sink.old) disk) (world (S.view source.new) (K.view sink.new) result.disk)
+    ensures row { TalkEnding D.view secret.now (talk_words_at arguments.now)
+        (world (S.view source.old) (K.view sink.old) disk (C.given clock.old) None)
+        (world (S.view source.new) (K.view sink.new) result.disk (C.given clock.new) result.trail)
         result.ending }
 {
-    match command_in(words) {
+    let limits = &arguments.limits;
+    let Talked {
+        ending,
+        disk,
+        trail,
+    } = talk(rt, alloc, source, sink, disk, clock, secret, limits);
+    match ending {
+        Ok(()) => Done {
+            ending: Ok(()),
+            disk,
+            trail,
+        },
+        Err(stop) => Done {
+            ending: Err(stop_for_talk(stop)),
+            disk,
+            trail,
+        },
+    }
+}
+
+// Does what a command says.
+fn obey_command<R: Wait, S: Source, K: Sink, D: Disk, C: Clock>(
+    rt: &R,
+    alloc: Global,
+    command: Option<CommandWords>,
+    secret: &Secret,
+    source: &mut S,
+    sink: &mut K,
+    disk: D,
+    clock: &mut C,
+) -> Done<D>
+    ensures row { IsEnding D.view secret.now (option_map command_at command.entry)
+        (world (S.view source.old) (K.view sink.old) disk (C.given clock.old) None)
+        (world (S.view source.new) (K.view sink.new) result.disk (C.given clock.new) result.trail)
+        result.ending }
+{
+    match command {
         None => Done {
             ending: Err(Stop::Refused(Refusal::UnknownCommand)),
             disk,
+            trail: None,
         },
         Some(CommandWords::Show(shown)) => Done {
-            ending: show(shown.text(), source, sink),
+            ending: show(text_shown(shown), source, sink),
             disk,
+            trail: None,
         },
         Some(CommandWords::Select(arguments)) => Done {
             ending: select(alloc, &arguments, source, sink),
             disk,
+            trail: None,
         },
-        Some(CommandWords::Init(arguments)) => init(alloc, &arguments, source, sink, disk),
+        Some(CommandWords::Init(arguments)) => {
+            init(alloc, &arguments, source, sink, disk, clock)
+        }
+        Some(CommandWords::Talk(arguments)) => {
+            serve(rt, alloc, &arguments, secret, source, sink, disk, clock)
+        }
     }
 }
 
-/// How a run ended: its exit status, and the disk that was handed in.
+// Does what the words ask for.
+fn obey<R: Wait, S: Source, K: Sink, D: Disk, C: Clock>(
+    rt: &R,
+    alloc: Global,
+    words: &[String],
+    secret: &Secret,
+    source: &mut S,
+    sink: &mut K,
+    disk: D,
+    clock: &mut C,
+) -> Done<D>
+    ensures row { IsStarved
+        (world (S.view source.old) (K.view sink.old) disk (C.given clock.old) None)
+        (world (S.view source.new) (K.view sink.new) result.disk (C.given clock.new) result.trail)
+        result.ending
+        ⊎ IsEnding D.view secret.now (command_of (map string_bytes words.now))
+        (world (S.view source.old) (K.view sink.old) disk (C.given clock.old) None)
+        (world (S.view source.new) (K.view sink.new) result.disk (C.given clock.new) result.trail)
+        result.ending }
+{
+    match command_in(alloc, words) {
+        Ok(command) => obey_command(rt, alloc, command, secret, source, sink, disk, clock),
+        Err(OutOfMemory) => Done {
+            ending: Err(Stop::OutOfMemory),
+            disk,
+            trail: None,
+        },
+    }
+}
+
+/// How a run ended: its exit status, the disk that was handed in, and the turns of the session of `talk`, if it came to
+/// one.
 #[derive(Drop)]
 pub struct Ended<D: Disk> {
     pub status: u8,
     pub disk: D,
+    pub trail: Option<Trail>,
 }
 
-/// Does what the words ask for, and answers the exit status. `words` are those after the program's
-/// name. On `errors` it tells why it stopped; a fault there leaves the status. `disk` is the archive's file: a command
-/// that uses none gives it back as it was.
+/// Does what the words ask for, and answers the exit status. `words` are those after the program's name, and `secret`
+/// is what the nonces of HTTP Digest are made of. On `errors` it tells why it stopped; a fault there leaves the status.
+/// `disk` is the archive's file: a command that uses none gives it back as it was. `talk` alone asks the clock.
 ///
 /// | status | comes where |
 /// |---|---|
-/// | 0 | the sink got the whole answer; `init` left the new archive on the disk |
+/// | 0 | the sink got the whole answer; `init` left the new archive on the disk; the session of `talk` was served to its end |
 /// | 1 | the words are no command |
 /// | 2 | a word of the query, or a record of the input, is refused |
 /// | 3 | no record is picked |
 /// | 4 | the answer is longer than the limit |
-/// | 5, 6, 7 | the source, the sink, the disk failed |
-/// | 9 | the file that `init` is to make the archive in has bytes |
+/// | 5, 6, 7 | the source, the sink, the disk failed; in `talk` the disk stopped a command |
+/// | 9 | the file that `init` is to make the archive in has bytes, or that which `talk` is to open is no archive |
 /// | 10 | the input is longer than 67,108,864 bytes |
+/// | 11 | the input of `talk` ended inside a request |
 /// | 70 | memory ran out |
-pub fn run<R, S: Source, K: Sink, E: Sink, D: Disk>(
-    _rt: &R,
+pub fn run<R: Wait, S: Source, K: Sink, E: Sink, D: Disk, C: Clock>(
+    rt: &R,
     alloc: Global,
     words: &[String],
+    secret: Secret,
     source: &mut S,
     sink: &mut K,
     errors: &mut E,
     disk: D,
+    clock: &mut C,
 ) -> Ended<D>
     // One row of the table holds, and the errors got its text.
-    ensures table { IsRun D.view (command_of (map string_bytes words.now))
-        (world (S.view source.old) (K.view sink.old) disk) (world (S.view source.new) (K.view sink.new) result.disk)
-        (E.view errors.old) (E.view errors.new)
-        result.status }
+    ensures table { IsRun D.view secret (command_of (map string_bytes words.now))
+        (world (S.view source.old) (K.view sink.old) disk (C.given clock.old) None)
+        (world (S.view source.new) (K.view sink.new) result.disk (C.given clock.new) result.trail)
+        (E.view errors.old) (E.view errors.new) result.status }
 
-    // The other way round: what the words and what is read determine is what comes, with its text, unless
-    // the source, the sink or the disk failed or memory ran out.
-    ensures settled { Told D.view (command_of (map string_bytes words.now)) (world (S.view source.old) (K.view sink.old) disk)
-        (λ given. IsSettled (command_of (map string_bytes words.now)) given (E.view errors.old) (E.view errors.new) result.status) }
-
-    ensures complete { Told D.view (command_of (map string_bytes words.now)) (world (S.view source.old) (K.view sink.old) disk)
-        (λ given. IsComplete D.view (command_of (map string_bytes words.now)) given
-        (world (S.view source.old) (K.view sink.old) disk) (world (S.view source.new) (K.view sink.new) result.disk)
-        (E.view errors.old) (E.view errors.new) result.status) }
-
-    // With every status but 0 and 6 the sink is as before.
-    ensures kept { result.status ≢ 0 → result.status ≢ 6 → K.view sink.new ≡ K.view sink.old }
-    // A command that uses no disk leaves it as it was.
-    ensures unused { KeepsUnused (command_of (map string_bytes words.now)) disk result.disk }
-
-    // The rows that a reader looks for.
-    ensures written { result.status ≡ 0 → HasWritten D.view (command_of (map string_bytes words.now))
-        (world (S.view source.old) (K.view sink.old) disk) (world (S.view source.new) (K.view sink.new) result.disk) }
-    ensures founded { (w : InitWords) → command_of (map string_bytes words.now) ≡ Some (init w) → result.status ≡ 0
-        → WhereTold (D.view disk) (HoldsNewArchive (D.view result.disk) w) }
-    ensures unknown { (result.status ≡ 1) ↔ (command_of (map string_bytes words.now) ≡ None) }
-    ensures refused { Told D.view (command_of (map string_bytes words.now)) (world (S.view source.old) (K.view sink.old) disk)
-        (λ given. ComesWhere result.status 2 (IsRefused (command_of (map string_bytes words.now)) given)) }
-    ensures no_data { Told D.view (command_of (map string_bytes words.now)) (world (S.view source.old) (K.view sink.old) disk)
-        (λ given. ComesWhere result.status 3 (IsAnswer (command_of (map string_bytes words.now)) given (Err Refusal.NoData))) }
-    ensures too_large { Told D.view (command_of (map string_bytes words.now)) (world (S.view source.old) (K.view sink.old) disk)
-        (λ given. ComesWhere result.status 4 (IsTooLarge (command_of (map string_bytes words.now)) given)) }
-    ensures read_fault { result.status ≡ 5 → Rose (S.view source.old).faults (S.view source.new).faults }
-    ensures write_fault { result.status ≡ 6 → IsCutShort D.view (command_of (map string_bytes words.now))
-        (world (S.view source.old) (K.view sink.old) disk) (world (S.view source.new) (K.view sink.new) result.disk) }
-    ensures disk_fault { result.status ≡ 7 → Rose (D.view disk).faults (D.view result.disk).faults }
-    ensures not_empty { Told D.view (command_of (map string_bytes words.now)) (world (S.view source.old) (K.view sink.old) disk)
-        (λ given. ComesWhere result.status 9 (IsAnswer (command_of (map string_bytes words.now)) given (Err Refusal.NotEmpty))) }
-    ensures untouched { result.status ≡ 9 → WhereTold (D.view disk) (KeepsFile (D.view disk) (D.view result.disk)) }
-    ensures too_long { Told D.view (command_of (map string_bytes words.now)) (world (S.view source.old) (K.view sink.old) disk)
-        (λ given. ComesWhere result.status 10 (IsAnswer (command_of (map string_bytes words.now)) given (Err Refusal.InputTooLong))) }
+    // The rows that a reader looks for: which status comes where, and what it leaves.
+    ensures rows { RunRows D.view secret (command_of (map string_bytes words.now))
+        (world (S.view source.old) (K.view sink.old) disk (C.given clock.old) None)
+        (world (S.view source.new) (K.view sink.new) result.disk (C.given clock.new) result.trail)
+        (E.view errors.old) (E.view errors.new) result.status }
 {
-    let Done { ending, disk } = obey(alloc, words, source, sink, disk);
+    let Done {
+        ending,
+        disk,
+        trail,
+    } = obey(rt, alloc, words, &secret, source, sink, disk, clock);
     match ending {
-        Ok(()) => Ended { status: 0, disk },
+        Ok(()) => Ended {
+            status: 0,
+            disk,
+            trail,
+        },
         Err(stop) => Ended {
             status: tell_stop(alloc, errors, stop).status(),
             disk,
+            trail,
         },
     }
 }

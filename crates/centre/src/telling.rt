@@ -47,6 +47,14 @@ fn size_text(alloc: Global, bytes: u64, limit: u64) -> Result<String, AllocError
     Ok(text)
 }
 
+fn damage_text(alloc: Global, at: u64) -> Result<String, AllocError>
+    ensures { IfOk result (λ text. string_bytes text ≡ text_of_refusal (Refusal.Damaged at)) }
+{
+    let mut text = format!(in alloc; "centre: journal damaged at {at}")?;
+    text.push_str("\n")?;
+    Ok(text)
+}
+
 // Writes a text, as far as the errors take it.
 fn tell<E: Sink>(errors: &mut E, text: &str)
     ensures { Tells (E.view errors.old) (E.view errors.new) text.now }
@@ -91,7 +99,12 @@ fn tell_refusal<E: Sink>(alloc: Global, errors: &mut E, refusal: Refusal) -> Sto
             return tell_made(errors, refusal, size_text(alloc, bytes, limit));
         }
         Refusal::NotEmpty => tell(errors, "centre: journal is not empty\n"),
+        Refusal::NotAJournal => tell(errors, "centre: not a journal\n"),
+        Refusal::Damaged(at) => {
+            return tell_made(errors, refusal, damage_text(alloc, at));
+        }
         Refusal::InputTooLong => tell(errors, "centre: input too long\n"),
+        Refusal::RequestCut => tell(errors, "centre: request cut\n"),
     }
     Stop::Refused(refusal)
 }

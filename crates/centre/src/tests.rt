@@ -6,3 +6,4 @@ mod options;
 mod records;
 mod runs;
 mod shelves;
+mod talks;

@@ -3,12 +3,12 @@ ghost use Rattle.std.specs.Prelude.{◌≡◌, ◌++◌, [], ◌∷◌, Some, If
 ghost use Rattle.exact_time.specs.MomentText.{IsMoment};
 ghost use Rattle.channel_globs.specs.PatternText.{IsPatternList};
 ghost use Rattle.query_parameters.specs.Values.{quality_of, flag_of, IsMinimum};
-ghost use Rattle.centre.specs.Arguments.{words_at};
+ghost use Rattle.command_words.specs.Arguments.{words_at};
 ghost use Rattle.centre.specs.Words.{stop_for, code_words, time_words, CanReadWords, IsList, IsTime, IsQuality, IsLength, IsFlag, IsNamed, AreSelectOptions, IsSelectQuery, RefusesSelectWords, StopsWith};
 
-use crate::commands::SelectArguments;
 use crate::ending::{Refusal, Stop, Word};
 use channel_globs::{GlobFault, Part, PatternList};
+use command_words::SelectArguments;
 use dataselect::{DataQuery, Nodata, Selection};
 use exact_time::{Many, Moment};
 use mseed_header::Quality;

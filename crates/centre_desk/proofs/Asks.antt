@@ -1,6 +1,6 @@
 -- What a desk's answer is told as, and what a query path tells.
-use Rattle.std.proofs.Common.{◌≡◌, ◌∙◌, refl, sym, ap, subst, arith, ℕ, ◌+◌, ◌-◌, ◌^◌, ◌≤◌, List, ◌++◌, length, append_assoc, Option, None, Some, Result, Ok, Err}
-use Rattle.std.specs.Prelude.{IfOk, min}
+use Rattle.std.proofs.Common.{◌≡◌, ◌∙◌, sym, ap, subst, arith, ℕ, ◌+◌, ◌-◌, ◌^◌, List, ◌++◌, length, append_assoc, Option, None, Some, Result, Ok, Err}
+use Rattle.std.specs.Prelude.{IfOk}
 use Rattle.std.proofs.Math.Nat.{min-le_left}
 use mathlib.Core.List.{IsPrefix}
 use Rattle.exact_time.specs.declared.error.OutOfMemory.{OutOfMemory}
@@ -14,7 +14,7 @@ use Rattle.desk_words.specs.declared.asking.Answer.{Answer}
 use Rattle.desk_words.specs.declared.asking.Wanted.{Wanted}
 use Rattle.http_wire.specs.declared.request.Request.{Request}
 use Rattle.service_paths.specs.declared.page.Access.{Access}
-use Rattle.centre_desk.specs.Answering.{asking_of, told_by, told_asking, said_as, Answers, HasSaid, SaidRow, Says}
+use Rattle.centre_desk.specs.Answering.{asking_of, told_by, told_asking, said_as, HasSaid, SaidRow, Says}
 use Rattle.centre_desk.specs.Fields.{credentials_by}
 use Rattle.centre_desk.specs.Replies.{told_query}
 use Rattle.centre_desk.specs.declared.answering.Asking.{Asking}
@@ -43,7 +43,7 @@ module _ (old new : Stand) (r : Request) (moment : Moment) (s : Setting) (access
       subst (λ (x : Said). HasSaid old new (λ h added. told_query h r moment s access asked front) None moment s x) (sym all)
       (answered_said old new (λ h added. told_query h r moment s access asked front) moment s on made (going_query new.seen r moment s access asked front))
 
-prefix_then : (xs ys zs : List Entry) → IsPrefix xs ys → IsPrefix ys zs → IsPrefix xs zs
+pub prefix_then : (xs ys zs : List Entry) → IsPrefix xs ys → IsPrefix ys zs → IsPrefix xs zs
 prefix_then xs ys zs p q = (p.0 ++ q.0, sym (append_assoc xs p.0 q.0) ∙ (ap (λ (w : List Entry). w ++ q.0) p.1 ∙ q.1))
 
 -- one call after another

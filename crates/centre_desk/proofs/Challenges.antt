@@ -1,5 +1,5 @@
 -- A challenge is its nonce, and whether the last one was too old.
-use Rattle.std.proofs.Common.{◌≡◌, ◌∙◌, Bool, true, List, ℕ, ap, Option, Some, unwrap_or}
+use Rattle.std.proofs.Common.{◌≡◌, Bool, true, unwrap_or}
 use Rattle.std.proofs.Props.{props}
 use Rattle.std.specs.List.{list_all}
 use Rattle.std.specs.Char.{is_ascii_hexdigit}

@@ -1,28 +1,26 @@
 -- What a request is told, row by row, and that a command acts once.
-use Rattle.std.proofs.Common.{◌≡◌, ◌∙◌, refl, sym, ap, subst, ℕ, ◌≤◌, ◌==◌, ◌&&◌, Bool, true, false, List, [], ◌∷◌, ◌++◌, length, map, nat_lt, if◌then◌else◌, Option, None, Some, Result, Ok, Err}
+use Rattle.std.proofs.Common.{◌≡◌, ◌∙◌, refl, sym, ap, ℕ, ◌≤◌, ◌&&◌, Bool, true, false, List, [], ◌∷◌, ◌++◌, length, map, nat_lt, if◌then◌else◌, Option, None, Some, Result, Ok, Err}
 use Rattle.std.proofs.lemmas.List.{append-nil}
 use Rattle.std.specs.List.{All, fold, slice_get}
 use Rattle.std.proofs.lemmas.List.Elements.{All-head, All-tail}
 use Rattle.std.specs.Str.{bytes_eq}
 use Rattle.exact_time.specs.declared.moment.Moment.{Moment}
 use Rattle.epochs.specs.Kinds.{Text}
-use Rattle.access_digest.specs.Who.{who_of}
 use Rattle.access_digest.specs.declared.denial.Denial.{Denial}
 use Rattle.archive_entry.specs.declared.entry.Entry.{Entry}
 use Rattle.archive_entry.specs.declared.entry.Kind.{Kind}
 use Rattle.archive_state.specs.History.{live_of, may_post}
 use Rattle.archive_state.specs.Lawful.{is_lawful}
-use Rattle.archive_state.specs.Verdicts.{command, is_kind, judged_of, verdict_by}
+use Rattle.archive_state.specs.Verdicts.{command, is_kind, verdict_by}
 use Rattle.archive_state.specs.declared.limits.Limits.{Limits}
 use Rattle.archive_state.specs.declared.posted.Posted.{Posted}
 use Rattle.archive_state.specs.declared.verdict.Verdict.{Verdict}
 use Rattle.archive_state.specs.declared.verdict.Verdict.TheVariants.{Repeat, OtherBody, Role}
 use Rattle.archive_state.proofs.Sendings.{known_verdict}
 use Rattle.query_parameters.specs.declared.fault.QueryFault.{QueryFault}
-use Rattle.desk_words.specs.Outcomes.{asked_as, wanted_outcome}
+use Rattle.desk_words.specs.Outcomes.{asked_as}
 use Rattle.desk_words.specs.Posting.{ruling, posted_entry, added_by}
 use Rattle.desk_words.specs.Setting.{Setting}
-use Rattle.desk_words.specs.Visible.{visible}
 use Rattle.desk_words.specs.declared.asking.Wanted.{Wanted}
 use Rattle.http_wire.specs.FieldPairs.{as_pair}
 use Rattle.http_wire.specs.declared.request.Request.{Request}
@@ -31,14 +29,12 @@ use Rattle.service_paths.specs.declared.page.Access.{Access}
 use Rattle.service_paths.specs.declared.page.Asked.{Asked}
 use Rattle.service_paths.specs.declared.page.Page.{Page}
 use Rattle.service_paths.specs.declared.page.Page.TheVariants as page
-use Rattle.service_paths.specs.declared.page.Service.{Service}
 use Rattle.centre_desk.specs.Fields.{front_asked, credentials_by}
-use Rattle.centre_desk.specs.Laws.{Tells, PathRows, FeedRows, QueryRows, Sent, Posts, adds_by, after_request, after_requests, told_again, told_repeat}
+use Rattle.centre_desk.specs.Laws.{PathRows, FeedRows, QueryRows, Sent, Posts, adds_by, after_request, after_requests, told_repeat}
 use Rattle.centre_desk.specs.Queries.{wanted_of, seq_got}
 use Rattle.centre_desk.specs.Replies.{told_of, told_path, told_page, told_feed, told_query, told_caller, told_user, told_verdict, judged_over, posted_as}
 use Rattle.centre_desk.specs.Turns.{allowed_page, reached, posted_under, posted_on, posted_by}
 use Rattle.centre_desk.specs.declared.fault.Fault.TheVariants as fault
-use Rattle.centre_desk.specs.declared.told.Told.{Told}
 use Rattle.centre_desk.specs.declared.told.Told.TheVariants.{Refused}
 
 -- ---- the page that a request reaches

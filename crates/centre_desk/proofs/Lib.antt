@@ -1,4 +1,5 @@
 pub mod Asks
+pub mod Behinds
 pub mod Challenges
 pub mod Laws
 pub mod Posts
@@ -6,5 +7,6 @@ pub mod Queried
 pub mod Readers
 pub mod Replied
 pub mod Sendable
+pub mod Sources
 pub mod Statuses
 pub mod Values

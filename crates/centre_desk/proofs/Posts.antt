@@ -1,5 +1,5 @@
 -- What a command is told that was judged, or that a disk stopped.
-use Rattle.std.proofs.Common.{◌≡◌, ◌∙◌, refl, sym, ap, subst, inl, inr, arith, ℕ, ◌+◌, ◌-◌, ◌^◌, ◌≤◌, ◌==◌, Bool, true, false, List, [], ◌∷◌, ◌++◌, length, length-append, take, Option, None, Some, is_some, Result, Ok, Err}
+use Rattle.std.proofs.Common.{◌≡◌, ◌∙◌, refl, sym, ap, subst, inl, inr, arith, ℕ, ◌+◌, ◌-◌, ◌^◌, ◌≤◌, ◌==◌, Bool, true, false, List, [], ◌∷◌, ◌++◌, length, length-append, take, None, Some, is_some, Result, Ok, Err}
 use Rattle.std.proofs.Math.Nat.{min-le_left}
 use Rattle.std.proofs.Math.Seq.{take-append_seam}
 use Rattle.std.proofs.lemmas.List.{append-nil}
@@ -16,12 +16,12 @@ use Rattle.archive_state.specs.declared.posted.Posted.{Posted}
 use Rattle.archive_state.specs.declared.verdict.Verdict.{Verdict}
 use Rattle.archive_state.specs.declared.verdict.Verdict.TheVariants.{Denied, Role, Repeat, OtherBody, Gap, BadRecord, BadLine, Broken, FullRecords, FullBytes, Accept}
 use Rattle.archive_state.proofs.Accepts.{accept_number}
-use Rattle.desk_words.specs.Counts.{RoseBy, RoseWithin, RoseAtLeast}
+use Rattle.desk_words.specs.Counts.{RoseWithin, RoseAtLeast}
 use Rattle.desk_words.specs.Posting.{ruling, posted_entry, command_by, entry_by, listed, added_by as verdict_adds}
 use Rattle.desk_words.specs.Setting.{Setting}
 use Rattle.desk_words.specs.Stand.{Stand, GoesOn, IsJudged, IsStopped, made_by}
 use Rattle.desk_words.specs.declared.asking.Submitted.{Submitted}
-use Rattle.centre_desk.specs.Answering.{HasSaid, SaysWhole, SaysStopped, said_as, entry_number, Answers}
+use Rattle.centre_desk.specs.Answering.{HasSaid, said_as, entry_number}
 use Rattle.centre_desk.specs.Replies.{judged_over, told_verdict}
 use Rattle.centre_desk.specs.Told.{status_told}
 use Rattle.centre_desk.specs.Turns.{IsLast, AddsRight, added_by, as_count}
@@ -38,7 +38,7 @@ no_less told before now is le =
 same_within : (before now : ℕ) → now ≡ before → RoseWithin 0 0 before now
 same_within before now is = record { later = omega (arith, is); at_least = omega (arith, is, min-le_left (before + 0) (2 ^ 64 - 1)); at_most = omega (arith, is) }
 
-prefix_length : (xs ys : List Entry) → IsPrefix xs ys → length xs ≤ length ys
+pub prefix_length : (xs ys : List Entry) → IsPrefix xs ys → length xs ≤ length ys
 prefix_length xs ys p = omega (arith, sym (ap length p.1) ∙ length-append xs p.0)
 
 without_last : (j : List Entry) (e : Entry) → judged_over (j ++ e ∷ []) true ≡ j
@@ -47,10 +47,10 @@ without_last j e =
     ap (λ (k : ℕ). take k (j ++ e ∷ [])) n ∙ take-append_seam j (e ∷ [])
 
 -- an accepted command has an entry, with the number behind the last one
-record OneEntry (j : List Entry) (p : Posted) (m : Moment) (s : Setting) (n : ℕ) : Type 0 where
-  made : Entry
-  entry_is : posted_entry j p m s ≡ Some made
-  number : n ≡ length j + 1
+pub record OneEntry (j : List Entry) (p : Posted) (m : Moment) (s : Setting) (n : ℕ) : Type 0 where
+  pub made : Entry
+  pub entry_is : posted_entry j p m s ≡ Some made
+  pub number : n ≡ length j + 1
 
 accepted_by : (j : List Entry) (p : Posted) (m : Moment) (s : Setting) (n : ℕ) (w : Result Text Denial) → who_of (live_of j) p.credentials m s.secret ≡ w → verdict_by j s.limits p w ≡ Accept n → OneEntry j p m s n
 accepted_by j p m s n (Err d) who is = absurd cc
@@ -60,7 +60,7 @@ accepted_by j p m s n (Ok name) who is = record {
   number = accept_number j s.limits (command name p.seq p.kind p.body) n is;
 }
 
-accepted : (j : List Entry) (p : Posted) (m : Moment) (s : Setting) (n : ℕ) → ruling j p m s ≡ Accept n → OneEntry j p m s n
+pub accepted : (j : List Entry) (p : Posted) (m : Moment) (s : Setting) (n : ℕ) → ruling j p m s ≡ Accept n → OneEntry j p m s n
 accepted j p m s n is = accepted_by j p m s n (who_of (live_of j) p.credentials m s.secret) refl is
 
 -- what a verdict says of the history after it

@@ -1,5 +1,5 @@
 -- A reader's answer is the one that its law gives, or want of memory.
-use Rattle.std.proofs.Common.{◌≡◌, ◌⊎◌, inl, inr, ⊎_elim, refl, arith, ℕ, ◌≤◌, nat_le, List, length, Bool, true, Result, Ok, Err, IfOk}
+use Rattle.std.proofs.Common.{◌≡◌, ◌⊎◌, inl, inr, ⊎_elim, refl, arith, ℕ, ◌≤◌, nat_le, List, length, true, Result, Ok, Err, IfOk}
 use Rattle.std.proofs.lemmas.Bool.Decides.{nat_tests}
 use Rattle.std.specs.Result.{IsErrOf}
 use Rattle.list_laws.specs.Only.{IsOnly}

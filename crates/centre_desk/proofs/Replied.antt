@@ -1,16 +1,18 @@
 -- A reply tells what was said.
-use Rattle.std.proofs.Common.{◌≡◌, ◌∙◌, ◌⊎◌, refl, sym, ap, subst, inl, inr, ⊎_elim, ℕ, Bool, true, false, List, length, Option, is_some}
+use Rattle.std.proofs.Common.{◌≡◌, ◌∙◌, refl, sym, ap, subst, inl, inr, ⊎_elim, ℕ, ◌≤◌, false, length}
 use Rattle.exact_time.specs.declared.moment.Moment.{Moment}
-use Rattle.archive_entry.specs.declared.entry.Entry.{Entry}
+use Rattle.desk_words.specs.Counts.{RoseAtLeast}
 use Rattle.desk_words.specs.Setting.{Setting}
-use Rattle.desk_words.specs.Stand.{Stand}
+use Rattle.desk_words.specs.Stand.{Stand, GoesOn}
 use Rattle.http_replies.specs.declared.reply.Reply.{Reply}
 use Rattle.http_wire.specs.declared.request.Request.{Request}
 use Rattle.http_wire.specs.declared.turn.Turn.{Turn}
 use Rattle.centre_desk.specs.Answering.{HasSaid, SaysWhole, SaysStopped}
 use Rattle.centre_desk.specs.Replies.{told_of}
 use Rattle.centre_desk.specs.Told.{reply_from}
-use Rattle.centre_desk.specs.Turns.{IsWhole, IsStopped, Replied, posted_by}
+use Rattle.centre_desk.specs.Turns.{Replied, posted_by, asks_above, behind_of, CaughtUpIf}
+use Rattle.centre_desk.proofs.Behinds.{behind_caught}
+use Rattle.centre_desk.proofs.Posts.{prefix_length}
 use Rattle.centre_desk.specs.declared.told.Told.{Told}
 use Rattle.centre_desk.specs.declared.told.Said.{Said}
 
@@ -36,3 +38,10 @@ replied old new r moment s said h = record {
   stops = h.stops;
   made = h.made;
 }
+
+-- the desk caught up where the reply tells that there are too few entries
+pub behind_said : (old new : Stand) (r : Request) (moment : Moment) (s : Setting) (said : Said) (reply : Reply) → GoesOn old new → HasSaid old new (λ h added. told_of h r moment s added) (posted_by r) moment s said
+    → CaughtUpIf (asks_above (length old.seen) r) old.caught new.caught → old.caught ≤ new.caught → reply ≡ reply_from said.told said.front r moment s.secret → RoseAtLeast (behind_of reply) old.caught new.caught
+behind_said old new r moment s said reply on h caught later is =
+    subst (λ (x : Reply). RoseAtLeast (behind_of x) old.caught new.caught) (sym is)
+    (behind_caught (length old.seen) new.seen r s (turn_of said moment) (reply_from said.told said.front r moment s.secret) old.caught new.caught (prefix_length old.seen new.seen on.grows) later caught (replied old new r moment s said h).served)

@@ -1,5 +1,5 @@
 -- Every reply that is made can be sent.
-use Rattle.std.proofs.Common.{◌≡◌, ◌∙◌, refl, sym, ap, ℕ, ◌==◌, Bool, true, false, List, IsSome, None, Some}
+use Rattle.std.proofs.Common.{◌≡◌, ◌∙◌, refl, sym, ap, ℕ, ◌==◌, true, false}
 use Rattle.exact_time.specs.declared.moment.Moment.{Moment}
 use Rattle.access_digest.specs.declared.denial.Denial.{Denial}
 use Rattle.access_digest.specs.declared.denial.Denial.TheVariants as denial

@@ -1,5 +1,5 @@
 -- The values of the fields of a name, a field more at a time.
-use Rattle.std.proofs.Common.{◌≡◌, ◌∙◌, refl, sym, ap, ℕ, ◌+◌, ◌<◌, ◌≤◌, Bool, true, false, List, [], ◌∷◌, ◌++◌, length, take, drop, map, filter, slice_index_or, Bor, if◌then◌else◌, is_some, option_map, Option, None, Some, Result, Ok, Err, option_to_list}
+use Rattle.std.proofs.Common.{◌≡◌, ◌∙◌, refl, sym, ap, ℕ, ◌+◌, ◌<◌, ◌≤◌, Bool, true, false, List, [], ◌∷◌, ◌++◌, length, take, drop, map, filter, slice_index_or, Bor, if◌then◌else◌, is_some, option_map, Option, None, Some, Ok, Err, option_to_list}
 use Rattle.std.proofs.lemmas.List.{append-nil, map-append, take_more, take_all, take-append-drop}
 use Rattle.std.proofs.lemmas.List.Elements.{filter-append}
 use Rattle.http_wire.specs.FieldPairs.{as_pair}

@@ -1,5 +1,5 @@
 -- How what is told of a request is put together from what a desk says.
-use Rattle.std.specs.Prelude.{◌≡◌, ◌⊎◌, ℕ, ◌+◌, ◌≤◌, ◌==◌, Bool, true, false, List, length, Option, None, Some, is_some, Result, Ok, Err, IfOk}
+use Rattle.std.specs.Prelude.{◌≡◌, ◌⊎◌, ℕ, ◌+◌, ◌≤◌, ◌==◌, Bool, true, List, length, Option, None, Some, is_some, Result, Ok, Err, IfOk}
 use Rattle.exact_time.specs.declared.error.OutOfMemory.{OutOfMemory}
 use Rattle.exact_time.specs.declared.moment.Moment.{Moment}
 use Rattle.archive_entry.specs.declared.entry.Entry.{Entry}
@@ -12,7 +12,7 @@ use Rattle.query_parameters.specs.declared.fault.QueryFault.{QueryFault}
 use Rattle.desk_words.specs.Counts.{RoseWithin, RoseAtLeast}
 use Rattle.desk_words.specs.Outcomes.{outcome_of}
 use Rattle.desk_words.specs.Setting.{Setting}
-use Rattle.desk_words.specs.Stand.{Stand, GoesOn}
+use Rattle.desk_words.specs.Stand.{Stand, GoesOn, Quiet}
 use Rattle.desk_words.specs.declared.asking.Outcome.{Outcome}
 use Rattle.desk_words.specs.declared.asking.Outcome.TheVariants as outcome
 use Rattle.desk_words.specs.declared.asking.Question.{Question}
@@ -64,6 +64,7 @@ said_as told front entry = record { told = told; front = front; entry = entry }
 pub record Answers (old new : Stand) (tells : List Entry → Told) (result : Result Said OutOfMemory) : Type 0 where
   pub goes_on : GoesOn old new
   pub made : new.made ≡ old.made
+  pub quiet : Quiet old new
   pub said : IfOk result (λ s. s ≡ said_as (tells new.seen) (length new.seen) None)
 
 -- what a request is told is what is to be told over this history

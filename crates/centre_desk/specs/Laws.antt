@@ -1,6 +1,6 @@
 -- What holds of every request.
-use Rattle.std.specs.Prelude.{◌≡◌, ℕ, ◌≤◌, ◌==◌, ◌&&◌, Bool, true, false, List, [], ◌++◌, length, map, nat_lt, if◌then◌else◌, Option, None, Some, Result, Ok, Err}
-use Rattle.std.specs.List.{fold, slice_get}
+use Rattle.std.specs.Prelude.{◌≡◌, ℕ, ◌&&◌, Bool, true, false, List, [], ◌++◌, length, map, nat_lt, if◌then◌else◌, Option, None, Some, Ok, Err}
+use Rattle.std.specs.List.{fold}
 use Rattle.std.specs.Str.{bytes_eq}
 use Rattle.exact_time.specs.declared.moment.Moment.{Moment}
 use Rattle.epochs.specs.Kinds.{Text}
@@ -9,7 +9,6 @@ use Rattle.access_digest.specs.declared.denial.Denial.{Denial}
 use Rattle.archive_entry.specs.declared.entry.Entry.{Entry}
 use Rattle.archive_entry.specs.declared.entry.Kind.{Kind}
 use Rattle.archive_state.specs.History.{live_of, may_post}
-use Rattle.archive_state.specs.Lawful.{is_lawful}
 use Rattle.archive_state.specs.Verdicts.{is_kind}
 use Rattle.archive_state.specs.declared.posted.Posted.{Posted}
 use Rattle.query_parameters.specs.declared.fault.QueryFault.{QueryFault}
@@ -30,7 +29,6 @@ use Rattle.service_paths.specs.declared.page.Service.{Service}
 use Rattle.centre_desk.specs.Fields.{front_asked, credentials_by}
 use Rattle.centre_desk.specs.Queries.{wanted_of, seq_got}
 use Rattle.centre_desk.specs.Replies.{told_of, told_answer, told_verdict, judged_over, posted_as, accepted}
-use Rattle.centre_desk.specs.Told.{status_told}
 use Rattle.centre_desk.specs.Turns.{reached, posted_by}
 use Rattle.centre_desk.specs.declared.fault.Fault.TheVariants as fault
 use Rattle.centre_desk.specs.declared.told.Told.{Told}

@@ -4,5 +4,6 @@ pub mod Fields
 pub mod Laws
 pub mod Queries
 pub mod Replies
+pub mod Sources
 pub mod Told
 pub mod Turns

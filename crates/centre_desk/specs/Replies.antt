@@ -1,5 +1,5 @@
 -- What a request is told over a history, and the one reply that tells it.
-use Rattle.std.specs.Prelude.{ℕ, ◌-◌, ◌==◌, ◌&&◌, Bool, true, false, List, [], ◌∷◌, ◌++◌, length, take, map, nat_lt, if◌then◌else◌, Option, None, Some, Result, Ok, Err, codes, decimal}
+use Rattle.std.specs.Prelude.{ℕ, ◌-◌, Bool, true, false, List, ◌++◌, length, take, map, nat_lt, if◌then◌else◌, Option, None, Some, Result, Ok, Err, codes, decimal}
 use Rattle.exact_time.specs.declared.moment.Moment.{Moment}
 use Rattle.epochs.specs.Kinds.{Text}
 use Rattle.access_digest.specs.declared.denial.Denial.{Denial}
@@ -28,7 +28,6 @@ use Rattle.http_wire.specs.FieldPairs.{as_pair}
 use Rattle.http_wire.specs.declared.request.Request.{Request}
 use Rattle.service_paths.specs.Paths.{page_of, methods_of, version_text, is_allowed, path_of, query_of}
 use Rattle.service_paths.specs.declared.page.Access.{Access}
-use Rattle.service_paths.specs.declared.page.Asked.{Asked}
 use Rattle.service_paths.specs.declared.page.Page.{Page}
 use Rattle.service_paths.specs.declared.page.Page.TheVariants as page
 use Rattle.centre_desk.specs.Fields.{front_asked, credentials_of, credentials_by}

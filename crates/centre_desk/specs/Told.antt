@@ -1,5 +1,5 @@
 -- What a request is told, and the reply that tells it.
-use Rattle.std.specs.Prelude.{ℕ, ◌==◌, ◌&&◌, Bool, true, false, List, [], Option, None, Some, unwrap_or, codes}
+use Rattle.std.specs.Prelude.{ℕ, Bool, true, false, List, [], Option, None, Some, unwrap_or, codes}
 use Rattle.std.specs.Str.{bytes_eq}
 use Rattle.exact_time.specs.declared.moment.Moment.{Moment}
 use Rattle.access_digest.specs.declared.denial.Denial.{Denial}

@@ -1,12 +1,13 @@
 -- What making a reply does to a desk, and what became of the request.
-use Rattle.std.specs.Prelude.{◌≡◌, ◌⊎◌, ℕ, ◌+◌, ◌≤◌, ◌==◌, Bool, true, false, List, ◌++◌, length, map, ⊤, nat_lt, if◌then◌else◌, Option, None, Some, is_some, Result, Ok, Err, OnOk}
+use Rattle.std.specs.Prelude.{◌≡◌, ◌⊎◌, ℕ, ◌+◌, ◌≤◌, ◌==◌, ◌&&◌, Bool, true, false, List, ◌++◌, length, map, take, codes, ⊤, nat_lt, if◌then◌else◌, Option, None, Some, is_some, Result, Ok, Err, OnOk}
+use Rattle.std.specs.Str.{bytes_eq}
 use Rattle.exact_time.specs.declared.error.OutOfMemory.{OutOfMemory}
 use Rattle.exact_time.specs.declared.moment.Moment.{Moment}
 use Rattle.archive_entry.specs.declared.entry.Entry.{Entry}
 use Rattle.archive_state.specs.Lawful.{is_accept}
 use Rattle.archive_state.specs.declared.posted.Posted.{Posted}
 use Rattle.query_parameters.specs.declared.fault.QueryFault.{QueryFault}
-use Rattle.desk_words.specs.Counts.{RoseBy, RoseWithin, RoseAtLeast}
+use Rattle.desk_words.specs.Counts.{RoseWithin, RoseAtLeast}
 use Rattle.desk_words.specs.Posting.{ruling, posted_entry, listed, could_stop}
 use Rattle.desk_words.specs.Setting.{Setting}
 use Rattle.desk_words.specs.Stand.{Stand, GoesOn}
@@ -102,6 +103,17 @@ pub record IsStopped (h : List Entry) (r : Request) (s : Setting) (t : Turn) (re
 abbrev pub as_count : Bool → ℕ
 as_count true = 1
 as_count false = 0
+
+-- the bytes begin with these
+abbrev pub begins_with : List ℕ → List ℕ → Bool
+begins_with words bytes = bytes_eq (take (length words) bytes) words
+
+-- the reply tells `front n asked, front m reached`: it has the status 400, and its body begins so
+abbrev pub tells_behind : Reply → Bool
+tells_behind reply = reply.status == 400 && begins_with (codes "Error 400: front ") reply.body
+
+abbrev pub behind_of : Reply → ℕ
+behind_of reply = as_count (tells_behind reply)
 
 -- A request had its reply, over what is seen after it.
 pub record Replied (old new : Stand) (r : Request) (moment : Moment) (s : Setting) (reply : Reply) (t : Turn) : Type 0 where

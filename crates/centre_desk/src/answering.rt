@@ -1,6 +1,7 @@
 //! Replies on query paths.
 ghost use Rattle.std.specs.Prelude.{◌≡◌, ◌≤◌, length, map, None, Some, OnOk, IfOk};
 ghost use Rattle.desk_words.specs.Setting.{setting};
+ghost use Rattle.desk_words.specs.Stand.{Quiet};
 ghost use Rattle.http_wire.specs.FieldPairs.{as_pair};
 ghost use Rattle.centre_desk.specs.Answering.{told_by, asking_of, told_asking, Answers, Says};
 ghost use Rattle.centre_desk.specs.Fields.{front_asked, credentials_by};
@@ -22,6 +23,7 @@ use http_wire::Request;
 use query_words::QueryFault;
 use service_paths::{Access, Asked};
 use std::alloc::Global;
+use std::sync::Wait;
 
 fn told_empty(nodata: Nodata) -> Told
     ensures { result ≡ told_empty nodata }
@@ -169,7 +171,8 @@ fn answer_told<K: Desk>(
 }
 
 /// What a request is told on a query path. The desk catches up first where it sees fewer entries than are asked for.
-pub(crate) fn query_said<K: Desk>(
+pub(crate) fn query_said<R: Wait, K: Desk>(
+    rt: &R,
     alloc: Global,
     desk: &mut K,
     request: &Request,
@@ -185,13 +188,14 @@ pub(crate) fn query_said<K: Desk>(
         None moment (setting secret.now limits.now) result }
     ensures caught { OnOk result (CaughtUpIf (is_above (length (K.stand desk.old).seen) (front_asked (map as_pair request.now.headers))) (K.stand desk.old).caught (K.stand desk.new).caught) }
     ensures later { (K.stand desk.old).caught ≤ (K.stand desk.new).caught }
+    ensures quiet { Quiet (K.stand desk.old) (K.stand desk.new) }
 {
     let Some(least) = front_asked(request.headers.as_slice()) else {
         return Ok(Said::refused(desk.front(), Fault::BadFront));
     };
     let asking = ask_for(alloc, request, query, asked, access, least, moment)?;
     if desk.front() < least {
-        desk.catch_up();
+        desk.catch_up(rt);
         return answer_told(alloc, desk, &asking, secret, limits);
     }
     answer_told(alloc, desk, &asking, secret, limits)

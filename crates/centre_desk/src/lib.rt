@@ -3,7 +3,8 @@
 //! What the crate above uses: [`reply`] answers a request over any `Desk`, at a moment. Its contract, `Replies` of
 //! `specs/Turns.antt`, says that the reply is `reply_of` over what the desk sees after the call, or tells that a disk
 //! stopped the command, which then may be stopped and which the desk counted; that the desk caught up exactly where the
-//! request asks for more entries than it saw; and what the turn says. Every reply that it makes can be sent.
+//! request asks for more entries than it saw; and what the turn says. Every reply that it makes can be sent. Over a desk
+//! that is alone, `AloneReply` of `specs/Sources.antt` says what the request added to what is seen, and what it left.
 //!
 //! The definition, `specs/Replies.antt`: what a request is told over a history, by tests in their order. First the path
 //! and the method; on a feed path the fault of the sequence number, and then the verdict; on a query path a bad field

@@ -6,6 +6,7 @@ ghost use Rattle.desk_words.specs.Setting.{setting};
 ghost use Rattle.centre_desk.specs.Answering.{Says, said_as, entry_number};
 ghost use Rattle.centre_desk.specs.Queries.{seq_got};
 ghost use Rattle.centre_desk.specs.Replies.{posted_as, judged_over, accepted, told_verdict, told_feed};
+ghost use Rattle.centre_desk.specs.Sources.{AloneSaid};
 ghost use Rattle.centre_desk.specs.Turns.{posted_under};
 
 use crate::fault::Fault;
@@ -20,6 +21,7 @@ use http_digest::Secret;
 use http_replies::BodyKind;
 use http_wire::Request;
 use std::alloc::Global;
+use std::sync::Wait;
 
 // The body that tells that the command has this entry.
 fn accepted(alloc: Global, number: u64) -> Result<Told, OutOfMemory>
@@ -78,7 +80,8 @@ fn verdict_said(alloc: Global, limits: &Limits, submitted: Submitted) -> Result<
 }
 
 // What a command is told.
-fn command_said<K: Desk>(
+fn command_said<R: Wait, K: Desk>(
+    rt: &R,
     alloc: Global,
     desk: &mut K,
     posted: &Posted,
@@ -91,8 +94,9 @@ fn command_said<K: Desk>(
         (λ h added. told_verdict limits.now (ruling (judged_over h added) posted.now moment (setting secret.now limits.now)))
         (Some posted.now) moment (setting secret.now limits.now) result }
     ensures caught { (K.stand desk.new).caught ≡ (K.stand desk.old).caught }
+    ensures alone { (K.stand desk.old).alone ≡ true → AloneSaid (K.stand desk.old) (K.stand desk.new) (Some posted.now) moment (setting secret.now limits.now) result }
 {
-    match desk.submit(alloc, posted, moment, secret, limits) {
+    match desk.submit(rt, alloc, posted, moment, secret, limits) {
         Ok(submitted) => match verdict_said(alloc, limits, submitted) {
             Ok(said) => Ok(said),
             Err(OutOfMemory) => Err(OutOfMemory),
@@ -114,7 +118,8 @@ fn posted_as(alloc: Global, request: &Request, kind: Kind, seq: u64) -> Result<P
 }
 
 /// What a request is told on a feed path.
-pub(crate) fn feed_said<K: Desk>(
+pub(crate) fn feed_said<R: Wait, K: Desk>(
+    rt: &R,
     alloc: Global,
     desk: &mut K,
     request: &Request,
@@ -130,11 +135,13 @@ pub(crate) fn feed_said<K: Desk>(
         (λ h added. told_feed (judged_over h added) request.now moment (setting secret.now limits.now) kind (seq_got query.now))
         (posted_under request.now kind (seq_got query.now)) moment (setting secret.now limits.now) result }
     ensures caught { (K.stand desk.new).caught ≡ (K.stand desk.old).caught }
+    ensures alone { (K.stand desk.old).alone ≡ true
+        → AloneSaid (K.stand desk.old) (K.stand desk.new) (posted_under request.now kind (seq_got query.now)) moment (setting secret.now limits.now) result }
 {
     let seq = match seq_of(alloc, query)? {
         Ok(seq) => seq,
         Err(fault) => return Ok(Said::refused(desk.front(), Fault::Query(fault))),
     };
     let posted = posted_as(alloc, request, kind, seq)?;
-    command_said(alloc, desk, &posted, moment, secret, limits)
+    command_said(rt, alloc, desk, &posted, moment, secret, limits)
 }

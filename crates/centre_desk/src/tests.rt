@@ -1,14 +1,17 @@
 //! Requests and their replies over small archives.
+ghost use Rattle.http_replies.specs.Replies.{IsSendable};
+
 use crate::reply;
 use archive_log::Archive;
 use archive_state::Limits;
 use disk_model::{Choice, Disk, MemoryDisk};
 use exact_time::{Bytes, Many, Moment};
 use http_digest::{Secret, nonce_of, response_of};
-use http_replies::write_reply;
-use http_wire::{Inbox, MemoryLink, read_request};
+use http_replies::{Reply, write_reply};
+use http_wire::{Inbox, MemoryLink, Request, read_request};
 use owned_desk::OwnedDesk;
 use std::alloc::Global;
+use std::sync::Wait;
 use std::test::Fail;
 
 mod commands;
@@ -81,29 +84,47 @@ fn command(alloc: Global, user: &str, target: &str, body: &[u8]) -> Result<Bytes
     posted(alloc, target, fields.as_str(), body)
 }
 
+// The request that these bytes are.
+fn request_of(alloc: Global, bytes: &Bytes) -> Result<Request, Fail> {
+    let mut pieces = Many::new(alloc);
+    pieces.push(bytes.copy(alloc)?)?;
+    let mut link = MemoryLink::new(alloc, pieces, Many::new(alloc));
+    let mut inbox = Inbox::new(alloc)?;
+    Ok(read_request(alloc, &mut link, &mut inbox, 1_048_576)?)
+}
+
+fn moment_at(second: u64) -> Result<Moment, Fail> {
+    let micros = i64::try_from(second)?
+        .checked_mul(1_000_000)
+        .ok_or("too late")?;
+    Ok(Moment { micros })
+}
+
+// The bytes of a reply on a link.
+fn written(alloc: Global, reply: &Reply) -> Result<Bytes, Fail>
+    requires { IsSendable reply.now }
+{
+    let mut link = MemoryLink::new(alloc, Many::new(alloc), Many::new(alloc));
+    write_reply(&mut link, reply)?;
+    bytes(alloc, link.told().ok_or("nothing written")?)
+}
+
 // The reply to a request at a second.
-fn reply_at<D: Disk>(
+fn reply_at<R: Wait, D: Disk>(
+    rt: &R,
     alloc: Global,
     desk: &mut OwnedDesk<D>,
     request: &Bytes,
     second: u64,
     limits: &Limits,
 ) -> Result<Bytes, Fail> {
-    let mut pieces = Many::new(alloc);
-    pieces.push(request.copy(alloc)?)?;
-    let mut link = MemoryLink::new(alloc, pieces, Many::new(alloc));
-    let mut inbox = Inbox::new(alloc)?;
-    let request = read_request(alloc, &mut link, &mut inbox, 1_048_576)?;
-    let micros = i64::try_from(second)?
-        .checked_mul(1_000_000)
-        .ok_or("too late")?;
-    let moment = Moment { micros };
+    let request = request_of(alloc, request)?;
+    let moment = moment_at(second)?;
     if request.body.len() > 1_048_576 || !moment.is_clock_moment() {
         return Err("no request".into());
     }
-    let (reply, _turn) = reply(alloc, desk, &request, moment, &SECRET, limits)?;
-    write_reply(&mut link, &reply)?;
-    bytes(alloc, link.told().ok_or("nothing written")?)
+    let (reply, _turn) = reply(rt, alloc, desk, &request, moment, &SECRET, limits)?;
+    written(alloc, &reply)
 }
 
 // A synced disk with this file.
@@ -115,44 +136,60 @@ fn disk_of(alloc: Global, file: &[u8], fails: &[u64]) -> Result<MemoryDisk, Fail
     Ok(MemoryDisk::new(alloc, bytes(alloc, file)?, calls)?)
 }
 
-// All replies to requests, one behind another, over an archive with this file.
-fn replies(
+// The desk of a synced disk with this file, which fails at these calls.
+fn opened(alloc: Global, file: &Bytes, fails: &[u64]) -> Result<OwnedDesk<MemoryDisk>, Fail> {
+    match OwnedDesk::start(alloc, disk_of(alloc, file.as_slice(), fails)?) {
+        Ok(desk) => Ok(desk),
+        Err((_, fault)) => Err(fault.into()),
+    }
+}
+
+// All replies to requests, one behind another, over a desk.
+fn replies_of<R: Wait>(
+    rt: &R,
+    alloc: Global,
+    desk: &mut OwnedDesk<MemoryDisk>,
+    requests: &[Bytes],
+    second: u64,
+    limits: &Limits,
+) -> Result<Bytes, Fail> {
+    let mut all = Bytes::new(alloc);
+    for request in requests {
+        let reply = reply_at(rt, alloc, desk, request, second, limits)?;
+        all.extend(reply.as_slice())?;
+    }
+    Ok(all)
+}
+
+// The same over an archive with this file.
+fn replies<R: Wait>(
+    rt: &R,
     alloc: Global,
     file: &Bytes,
     requests: &[Bytes],
     second: u64,
     limits: &Limits,
 ) -> Result<Bytes, Fail> {
-    let disk = disk_of(alloc, file.as_slice(), &[])?;
-    let mut desk = match OwnedDesk::start(alloc, disk) {
-        Ok(desk) => desk,
-        Err((_, fault)) => return Err(fault.into()),
-    };
-    let mut all = Bytes::new(alloc);
-    for request in requests {
-        let reply = reply_at(alloc, &mut desk, request, second, limits)?;
-        all.extend(reply.as_slice())?;
-    }
-    Ok(all)
+    let mut desk = opened(alloc, file, &[])?;
+    replies_of(rt, alloc, &mut desk, requests, second, limits)
 }
 
 // The replies to these requests now.
-fn told(alloc: Global, file: &Bytes, requests: &[Bytes]) -> Result<Bytes, Fail> {
-    replies(alloc, file, requests, NOW, &Limits::FULL)
+fn told<R: Wait>(rt: &R, alloc: Global, file: &Bytes, requests: &[Bytes]) -> Result<Bytes, Fail> {
+    replies(rt, alloc, file, requests, NOW, &Limits::FULL)
 }
 
-// The file of an archive behind these commands.
-fn with_commands(alloc: Global, file: &Bytes, commands: &[Bytes]) -> Result<Bytes, Fail> {
-    let disk = disk_of(alloc, file.as_slice(), &[])?;
-    let mut desk = match OwnedDesk::start(alloc, disk) {
-        Ok(desk) => desk,
-        Err((_, fault)) => return Err(fault.into()),
-    };
-    for command in commands {
-        let reply = reply_at(alloc, &mut desk, command, NOW, &Limits::FULL)?;
-        if !reply.as_slice().starts_with(b"HTTP/1.1 200 OK\r\n") {
-            return Err("not accepted".into());
-        }
+// The file of an archive behind a command.
+fn with_command<R: Wait>(
+    rt: &R,
+    alloc: Global,
+    file: &Bytes,
+    command: &Bytes,
+) -> Result<Bytes, Fail> {
+    let mut desk = opened(alloc, file, &[])?;
+    let reply = reply_at(rt, alloc, &mut desk, command, NOW, &Limits::FULL)?;
+    if !reply.as_slice().starts_with(b"HTTP/1.1 200 OK\r\n") {
+        return Err("not accepted".into());
     }
     Ok(desk.close().image(Choice::Old)?)
 }
@@ -166,21 +203,21 @@ fn founded(alloc: Global) -> Result<Bytes, Fail> {
 }
 
 // An archive with its operator and two users.
-fn users_archive(alloc: Global) -> Result<Bytes, Fail> {
+fn users_archive<R: Wait>(rt: &R, alloc: Global) -> Result<Bytes, Fail> {
     let users = command(alloc, "op", "/feed/1/revise?seq=1", USERS.as_bytes())?;
-    with_commands(alloc, &founded(alloc)?, &[users])
+    with_command(rt, alloc, &founded(alloc)?, &users)
 }
 
 // One with a record besides.
-fn record_archive(alloc: Global) -> Result<Bytes, Fail> {
+fn record_archive<R: Wait>(rt: &R, alloc: Global) -> Result<Bytes, Fail> {
     let record = command(alloc, "feed1", "/feed/1/batch?seq=1", &anmo_record())?;
-    with_commands(alloc, &users_archive(alloc)?, &[record])
+    with_command(rt, alloc, &users_archive(rt, alloc)?, &record)
 }
 
 // One with a network, a station and an event besides.
-fn epochs_archive(alloc: Global) -> Result<Bytes, Fail> {
+fn epochs_archive<R: Wait>(rt: &R, alloc: Global) -> Result<Bytes, Fail> {
     let epochs = command(alloc, "op", "/feed/1/revise?seq=2", EPOCHS.as_bytes())?;
-    with_commands(alloc, &record_archive(alloc)?, &[epochs])
+    with_command(rt, alloc, &record_archive(rt, alloc)?, &epochs)
 }
 
 // Adds the reply of this status with a text.

@@ -1,7 +1,7 @@
 -- A session so far, and how it ends.
-use Rattle.std.proofs.Common.{◌≡◌, ◌∙◌, ◌⊎◌, refl, sym, ap, subst, arith, inl, inr, ⊎_elim, ℕ, zero, suc, ◌+◌, ◌-◌, ◌^◌, ◌≤◌, ◌<◌, ◌==◌, ◌||◌, Bool, true, false, List, [], ◌∷◌, ◌++◌, length, length-append, append_assoc, take, map, Option, None, Some, Result, Ok, Err}
+use Rattle.std.proofs.Common.{◌≡◌, ◌∙◌, refl, sym, ap, subst, arith, inl, inr, ⊎_elim, ℕ, zero, suc, ◌+◌, ◌-◌, ◌≤◌, true, false, List, [], ◌∷◌, ◌++◌, length, length-append, append_assoc, take, Option, None, Some, Result, Ok, Err}
 use Rattle.std.proofs.lemmas.List.{append-nil, map-append}
-use Rattle.std.specs.Io.KnownBytes.{Consumes, IsAtEnd}
+use Rattle.std.specs.Io.KnownBytes.{Consumes}
 use Rattle.exact_time.specs.Causes.{Rose}
 use Rattle.exact_time.specs.declared.moment.Moment.{Moment}
 use Rattle.desk_words.specs.Setting.{Setting}
@@ -11,9 +11,8 @@ use Rattle.http_replies.specs.declared.reply.Reply.{Reply}
 use Rattle.http_replies.specs.declared.writing.LinkFault.{LinkFault as WriteFault}
 use Rattle.http_wire.specs.Fronts.{front_limit}
 use Rattle.http_wire.specs.Heads.{HeadView, interim_of}
-use Rattle.http_wire.specs.Items.{IsRequest, EndsAtFront, EndsInBody, body_limit}
+use Rattle.http_wire.specs.Items.{IsRequest, body_limit}
 use Rattle.http_wire.specs.Requests.{GivesRequest, StopsAtFront, StopsInBody, ReadsHead, BreaksOff, RunsOut, EndsSo as ReadEndsSo}
-use Rattle.http_wire.specs.Taking.{Moved}
 use Rattle.http_wire.specs.declared.ending.HeadFault.{HeadFault}
 use Rattle.http_wire.specs.declared.ending.ReadEnd.{ReadEnd}
 use Rattle.http_wire.specs.declared.ending.ReadEnd.TheVariants as read
@@ -24,14 +23,15 @@ use Rattle.streams.proofs.Grows.{Consumes-then, Grew-then}
 use Rattle.streams.specs.Effects.{Grew, WritesPart, PutsAll}
 use Rattle.streams.specs.View.{StreamView}
 use Rattle.centre_session.specs.Clocks.{GaveAll}
-use Rattle.centre_session.specs.Items.{Item, asked, refused, Ending, closing, over, cut, Says, AreItems, AreFirst, AreOpen, BeginsHead, IsInterim, item_output, output_of, memory_reply}
+use Rattle.centre_session.specs.Items.{Item, asked, refused, closing, over, cut, Says, AreItems, AreFirst, AreOpen, BeginsHead, IsInterim, item_output, output_of, memory_reply}
 use Rattle.centre_session.specs.Session.{Scene, scene, moments_of, but_last, Session, Ended, Broken, RanOut, WritesOr, SessionRow}
 use Rattle.centre_session.specs.Steps.{ItemRow, ShortRow, EndRow, end_by}
 use Rattle.centre_session.specs.Turns.{Serves}
 use Rattle.centre_session.specs.declared.ending.SessionEnd.{SessionEnd}
 use Rattle.centre_session.specs.declared.ending.SessionEnd.TheVariants.{Closed, Cut, LinkFault, Memory}
 use Rattle.centre_session.proofs.Items.{items_end, first_open, open_more, items_closing, first_more, items_refused, first_refused, without_last}
-use Rattle.centre_session.proofs.Sessions.{serves_more, serves_none, same_count, output_more}
+use Rattle.centre_session.proofs.Fronts.{same_count}
+use Rattle.centre_session.proofs.Sessions.{serves_more, serves_none, output_more}
 
 -- what was served so far of a session that goes on; `held` is what was taken and isn't used yet
 pub record SoFar (x y : Scene) (s : Setting) (turns : List Turn) (held : List ℕ) : Type 0 where
@@ -47,19 +47,20 @@ pub record SoFar (x y : Scene) (s : Setting) (turns : List Turn) (held : List �
   pub moments : GaveAll x.given y.given (moments_of turns)
   pub wrote : Grew x.link.written y.link.written (output_of items replies)
 
-consumes_none : (o : Option (List ℕ)) → Consumes o o []
+pub consumes_none : (o : Option (List ℕ)) → Consumes o o []
 consumes_none None = tt
 consumes_none (Some bytes) = refl
 
-grew_none : (o : Option (List ℕ)) → Grew o o []
+pub grew_none : (o : Option (List ℕ)) → Grew o o []
 grew_none None = tt
 grew_none (Some bytes) = sym (append-nil bytes)
 
-gave_none : (o : Option (List Moment)) → GaveAll o o []
+pub gave_none : (o : Option (List Moment)) → GaveAll o o []
 gave_none None = tt
 gave_none (Some moments) = sym (append-nil moments)
 
-gave_then : (a b c : Option (List Moment)) (p q : List Moment) → GaveAll a b p → GaveAll b c q → GaveAll a c (p ++ q)
+-- moments given behind others
+pub gave_then : (a b c : Option (List Moment)) (p q : List Moment) → GaveAll a b p → GaveAll b c q → GaveAll a c (p ++ q)
 gave_then a b None p q f g = tt
 gave_then None None (Some z) p q f g = absurd g
 gave_then None (Some y) (Some z) p q f g = absurd f
@@ -69,7 +70,7 @@ gave_then (Some x) (Some y) (Some z) p q f g = g ∙ (ap (λ (w : List Moment). 
 grew_same : (a b c : Option (List ℕ)) (bytes : List ℕ) → Grew a b bytes → c ≡ b → Grew a c bytes
 grew_same a b c bytes g is = subst (λ (o : Option (List ℕ)). Grew a o bytes) (sym is) g
 
-moments_more : (turns : List Turn) (t : Turn) → moments_of (turns ++ t ∷ []) ≡ moments_of turns ++ t.moment ∷ []
+pub moments_more : (turns : List Turn) (t : Turn) → moments_of (turns ++ t ∷ []) ≡ moments_of turns ++ t.moment ∷ []
 moments_more turns t = map-append (λ u. u.moment) turns (t ∷ [])
 
 pub begins : (x : Scene) (s : Setting) (turns : List Turn) (held : List ℕ) → turns ≡ [] → held ≡ [] → SoFar x x s turns held

@@ -1,5 +1,5 @@
 -- Items one behind another.
-use Rattle.std.proofs.Common.{◌≡◌, ◌∙◌, refl, sym, ap, subst, arith, inl, inr, ℕ, ◌+◌, ◌-◌, ◌==◌, ◌||◌, Bool, true, false, MatchBool, List, [], ◌∷◌, ◌++◌, length, length-append, append_assoc, take}
+use Rattle.std.proofs.Common.{◌≡◌, ◌∙◌, refl, sym, ap, subst, arith, ℕ, ◌+◌, ◌-◌, Bool, true, false, MatchBool, List, [], ◌∷◌, ◌++◌, length, length-append, append_assoc, take}
 use Rattle.std.proofs.Math.Seq.{take-append_seam}
 use Rattle.std.proofs.lemmas.List.{append-nil}
 use Rattle.http_wire.specs.Fronts.{front_limit}
@@ -8,7 +8,7 @@ use Rattle.http_wire.specs.Items.{IsRequest, EndsAtFront, body_limit}
 use Rattle.http_wire.specs.declared.ending.HeadFault.{HeadFault}
 use Rattle.http_wire.specs.declared.ending.StreamEnd.TheVariants as end
 use Rattle.http_wire.specs.declared.request.Request.{Request}
-use Rattle.centre_session.specs.Items.{Item, asked, refused, Ending, closing, over, cut, Says, EndsSo, AreItems, AreFirst, AreOpen}
+use Rattle.centre_session.specs.Items.{Item, asked, refused, Ending, closing, Says, EndsSo, AreItems, AreFirst, AreOpen}
 use Rattle.centre_session.specs.Session.{but_last}
 
 assoc4 : (a b c d : List ℕ) → a ≡ b ++ c → a ++ d ≡ b ++ (c ++ d)

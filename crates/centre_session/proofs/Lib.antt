@@ -1,5 +1,9 @@
 pub mod Bodies
 pub mod Endings
+pub mod Fronts
 pub mod Items
+pub mod Refusals
+pub mod Says
 pub mod Sessions
+pub mod Sources
 pub mod Steps

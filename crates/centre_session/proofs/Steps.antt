@@ -1,5 +1,5 @@
 -- An item's turn.
-use Rattle.std.proofs.Common.{◌≡◌, sym, subst, Bool, List, [], ◌∷◌, ◌++◌, Result}
+use Rattle.std.proofs.Common.{◌≡◌, sym, subst, List, [], ◌∷◌, ◌++◌, Result}
 use Rattle.exact_time.specs.declared.moment.Moment.{Moment}
 use Rattle.desk_words.specs.Setting.{Setting}
 use Rattle.http_replies.specs.Replies.{reply_bytes}

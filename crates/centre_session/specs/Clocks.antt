@@ -1,5 +1,5 @@
 -- The moments that a clock gave.
-use Rattle.std.specs.Prelude.{◌≡◌, ◌==◌, ℕ, if◌then◌else◌, replicate, List, [], ◌∷◌, ◌++◌, ⊤, Option, None, Some}
+use Rattle.std.specs.Prelude.{◌≡◌, ◌==◌, if◌then◌else◌, replicate, List, [], ◌∷◌, ◌++◌, ⊤, Option, None, Some}
 use Rattle.exact_time.specs.declared.moment.Moment.{Moment}
 use Rattle.centre_session.specs.declared.fixed.FixedClock.{FixedClock}
 

@@ -1,5 +1,6 @@
 pub mod Clocks
 pub mod Items
 pub mod Session
+pub mod Sources
 pub mod Steps
 pub mod Turns

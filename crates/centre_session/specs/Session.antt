@@ -1,5 +1,5 @@
 -- A session over a link.
-use Rattle.std.specs.Prelude.{◌≡◌, ◌⊎◌, ℕ, ◌-◌, ◌≤◌, Bool, true, false, List, [], ◌∷◌, ◌++◌, length, take, map, ⊤, Option, None}
+use Rattle.std.specs.Prelude.{◌≡◌, ◌⊎◌, ℕ, ◌-◌, ◌≤◌, true, false, List, [], ◌∷◌, ◌++◌, length, take, map, ⊤, Option, None}
 use Rattle.std.specs.Io.KnownBytes.{Consumes, IsAtEnd}
 use Rattle.exact_time.specs.Causes.{Rose}
 use Rattle.exact_time.specs.declared.moment.Moment.{Moment}
@@ -102,3 +102,28 @@ SessionRow before after s turns Closed = Ended before after s turns closing ⊎ 
 SessionRow before after s turns Cut = Ended before after s turns cut
 SessionRow before after s turns LinkFault = Broken before after s turns
 SessionRow before after s turns Memory = RanOut before after s turns
+
+-- a turn for which memory ran out while its request was read
+pub record IsLastShort (after : Stand) (t : Turn) : Type 0 where
+  pub short : t.short ≡ true
+  pub no_entry : t.entry ≡ None
+  pub front : t.front ≡ length after.seen
+
+-- no turn, or that one
+abbrev pub AreMore : Stand → List Turn → Type 0
+AreMore after [] = ⊤
+AreMore after (t ∷ []) = IsLastShort after t
+AreMore after (t ∷ u ∷ turns) = ⊥
+
+-- What every session says, whatever its end: its items had these turns and these replies, and one short turn more stands
+-- behind them where memory ran out while a request was read.
+pub record SessionSays (before after : Scene) (s : Setting) (turns : List Turn) : Type 0 where
+  pub items : List Item
+  pub replies : List Reply
+  pub done : List Turn
+  pub more : List Turn
+  pub turns_are : turns ≡ done ++ more
+  pub serves : Serves before.stand after.stand s items done replies
+  pub are_more : AreMore after.stand more
+  pub later : before.link.faults ≤ after.link.faults
+  pub moments : GaveAll before.given after.given (moments_of turns)

@@ -5,8 +5,10 @@
 //! `specs/Session.antt`, says by the end what was taken, replied and written.
 //!
 //! The definition: `specs/Items.antt` says which items the bytes of a link are and how they end (RFC 9112, section 2.1), and
-//! what is written of each; `specs/Turns.antt` what an item's turn is, and that all turns are over one history, whose fronts
-//! never fall. The reply to a request is that of `centre_desk`. That a longer history keeps a session is a law.
+//! what is written of each; `specs/Turns.antt` what an item's turn is, that all turns are over one history, whose fronts
+//! never fall, and what they count at the desk; `specs/Sources.antt` that over a desk that is alone they are the sources of
+//! all entries that were added. The reply to a request is that of `centre_desk`. That a longer history keeps a session is a
+//! law. `SessionSays` is what every session says, whatever its end (`session_says` of `proofs/Says.antt`).
 //!
 //! A session costs what its bytes and its replies cost: nothing goes over the turns or the bytes again.
 #![tactic(auto)]

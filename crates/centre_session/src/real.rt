@@ -16,6 +16,7 @@ const LAST: Moment = Moment {
 };
 
 /// The machine's clock. It tells nothing of what it gave.
+#[derive(Drop)]
 pub struct RealClock<R> {
     runtime: R,
 }

@@ -16,9 +16,11 @@ use http_digest::Secret;
 use http_replies::{LinkFault, write_reply};
 use http_wire::{HeadFault, Link, ReadEnd, Request};
 use std::alloc::Global;
+use std::sync::Wait;
 
 /// Replies to a request, and records its turn.
-pub(crate) fn serve_request<K: Desk, L: Link, C: Clock>(
+pub(crate) fn serve_request<R: Wait, K: Desk, L: Link, C: Clock>(
+    rt: &R,
     alloc: Global,
     desk: &mut K,
     link: &mut L,
@@ -36,7 +38,7 @@ pub(crate) fn serve_request<K: Desk, L: Link, C: Clock>(
         (setting secret.now limits.now) (asked head request.now) trail.old trail.new result }
 {
     let moment = clock.now();
-    let (reply, turn) = request_turn(alloc, desk, request, moment, secret, limits);
+    let (reply, turn) = request_turn(rt, alloc, desk, request, moment, secret, limits);
     trail.push(turn);
     write_reply(link, &reply)
 }

@@ -12,6 +12,7 @@ use desk_words::Desk;
 use http_digest::Secret;
 use http_wire::{Inbox, Link, Request, read_request};
 use std::alloc::Global;
+use std::sync::Wait;
 
 // How many bytes a body may have.
 const MAX_BODY: u64 = 1_048_576;
@@ -31,7 +32,8 @@ fn closing_if(request: Request, last: bool) -> Request
 ///
 /// The session ends where the input does, behind a request that closes or is the thousandth, behind a head that is refused,
 /// and where the link fails or memory runs out while a request is read.
-pub fn serve_session<K: Desk, L: Link, C: Clock>(
+pub fn serve_session<R: Wait, K: Desk, L: Link, C: Clock>(
+    rt: &R,
     alloc: Global,
     desk: &mut K,
     link: &mut L,
@@ -56,7 +58,9 @@ pub fn serve_session<K: Desk, L: Link, C: Clock>(
             Err(end) => return end_session(alloc, desk, link, clock, trail, end),
         };
         let request = closing_if(request, trail.len() + 1 == LIMIT);
-        match serve_request(alloc, desk, link, clock, secret, limits, trail, &request) {
+        match serve_request(
+            rt, alloc, desk, link, clock, secret, limits, trail, &request,
+        ) {
             Err(_) => return SessionEnd::LinkFault,
             Ok(()) => {
                 if request.close {

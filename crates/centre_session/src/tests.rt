@@ -8,6 +8,7 @@ use http_digest::Secret;
 use http_wire::MemoryLink;
 use owned_desk::OwnedDesk;
 use std::alloc::Global;
+use std::sync::Wait;
 use std::test::Fail;
 
 const SECRET: Secret = Secret {
@@ -52,35 +53,47 @@ struct Served {
     written: Bytes,
 }
 
-// A session over these bytes, with a desk over the founding entry alone and a link that fails at these calls.
-fn serve(alloc: Global, input: &[u8], fails: &[u64]) -> Result<Served, Fail> {
+// A disk with the founding entry alone.
+fn founded(alloc: Global) -> Result<MemoryDisk, Fail> {
     let disk = MemoryDisk::new(alloc, Bytes::new(alloc), Many::new(alloc))?;
-    let file = match Archive::found(alloc, disk, "op", "939e7578ed9e3c518a452acee763bce9") {
-        Ok(archive) => archive.close().image(Choice::Old)?,
-        Err((_, fault)) => return Err(fault.into()),
-    };
-    let disk = MemoryDisk::new(alloc, file, Many::new(alloc))?;
-    let mut desk = match OwnedDesk::start(alloc, disk) {
-        Ok(desk) => desk,
-        Err((_, fault)) => return Err(fault.into()),
-    };
-    let mut pieces = Many::new(alloc);
-    pieces.push(bytes(alloc, input)?)?;
-    let mut link = MemoryLink::new(alloc, pieces, numbers(alloc, fails)?);
-    let mut trail = Trail::new(alloc)?;
+    match Archive::found(alloc, disk, "op", "939e7578ed9e3c518a452acee763bce9") {
+        Ok(archive) => Ok(archive.close()),
+        Err((_, fault)) => Err(fault.into()),
+    }
+}
+
+// A desk over the founding entry alone.
+fn founded_desk(alloc: Global) -> Result<OwnedDesk<MemoryDisk>, Fail> {
+    let file = founded(alloc)?.image(Choice::Old)?;
+    match OwnedDesk::start(alloc, MemoryDisk::new(alloc, file, Many::new(alloc))?) {
+        Ok(desk) => Ok(desk),
+        Err((_, fault)) => Err(fault.into()),
+    }
+}
+
+// A session over such a desk and this link.
+fn serve_link<R: Wait>(
+    rt: &R,
+    alloc: Global,
+    link: &mut MemoryLink,
+    trail: &mut Trail,
+) -> Result<SessionEnd, Fail> {
+    let mut desk = founded_desk(alloc)?;
     if !NOW.is_clock_moment() {
         return Err("no moment".into());
     }
     let mut clock = FixedClock::new(NOW);
-    let end = serve_session(
-        alloc,
-        &mut desk,
-        &mut link,
-        &mut clock,
-        &SECRET,
-        &Limits::FULL,
-        &mut trail,
-    );
+    let full = &Limits::FULL;
+    Ok(serve_session(rt, alloc, &mut desk, link, &mut clock, &SECRET, full, trail))
+}
+
+// A session over these bytes, and a link that fails at these calls.
+fn serve<R: Wait>(rt: &R, alloc: Global, input: &[u8], fails: &[u64]) -> Result<Served, Fail> {
+    let mut pieces = Many::new(alloc);
+    pieces.push(bytes(alloc, input)?)?;
+    let mut link = MemoryLink::new(alloc, pieces, numbers(alloc, fails)?);
+    let mut trail = Trail::new(alloc)?;
+    let end = serve_link(rt, alloc, &mut link, &mut trail)?;
     let turns = trail.as_slice().len();
     let written = bytes(alloc, link.told().ok_or("nothing told")?)?;
     Ok(Served {
@@ -91,14 +104,15 @@ fn serve(alloc: Global, input: &[u8], fails: &[u64]) -> Result<Served, Fail> {
 }
 
 // Whether the session over these bytes ends so, with so many turns and these bytes written.
-fn serves(
+fn serves<R: Wait>(
+    rt: &R,
     alloc: Global,
     input: &[u8],
     end: SessionEnd,
     turns: usize,
     written: &[u8],
 ) -> Result<bool, Fail> {
-    let served = serve(alloc, input, &[])?;
+    let served = serve(rt, alloc, input, &[])?;
     Ok(served.end == end && served.turns == turns && served.written.as_slice() == written)
 }
 
@@ -112,11 +126,18 @@ fn refusal(alloc: Global, status: &str, text: &str) -> Result<Bytes, Fail> {
 }
 
 // Whether a session over these bytes and a request behind them refuses the head with this status and text, and closes.
-fn refuses(alloc: Global, head: &[u8], status: &str, text: &str) -> Result<bool, Fail> {
+fn refuses<R: Wait>(
+    rt: &R,
+    alloc: Global,
+    head: &[u8],
+    status: &str,
+    text: &str,
+) -> Result<bool, Fail> {
     let mut input = bytes(alloc, head)?;
     input.extend(VERSION)?;
     let wanted = refusal(alloc, status, text)?;
     serves(
+        rt,
         alloc,
         input.as_slice(),
         SessionEnd::Closed,
@@ -146,12 +167,21 @@ fn with_fields(alloc: Global, count: usize) -> Result<Bytes, Fail> {
 fn a_head_is_refused_and_closes(rt: HostRuntime) -> Result<(), Fail> {
     let alloc = rt.alloc();
     let bad = "Error 400: bad request head\n";
-    assert!(rt; refuses(alloc, b"GET  / HTTP/1.1\r\n\r\n", "400 Bad Request", bad)?);
+    assert!(rt;
+        refuses(
+            &rt,
+            alloc,
+            b"GET  / HTTP/1.1\r\n\r\n",
+            "400 Bad Request",
+            bad
+        )?
+    );
     let lengths = b"GET / HTTP/1.1\r\nContent-Length: 5\r\nContent-Length: 6\r\n\r\n";
-    assert!(rt; refuses(alloc, lengths, "400 Bad Request", bad)?);
+    assert!(rt; refuses(&rt, alloc, lengths, "400 Bad Request", bad)?);
     let none = "Error 411: length required\n";
     assert!(rt;
         refuses(
+            &rt,
             alloc,
             b"POST / HTTP/1.1\r\n\r\n",
             "411 Length Required",
@@ -160,7 +190,7 @@ fn a_head_is_refused_and_closes(rt: HostRuntime) -> Result<(), Fail> {
     );
     let long = b"POST / HTTP/1.1\r\nContent-Length: 1048577\r\n\r\n";
     let body = "Error 413: body of 1048577 bytes exceeds 1048576\n";
-    assert!(rt; refuses(alloc, long, "413 Payload Too Large", body)?);
+    assert!(rt; refuses(&rt, alloc, long, "413 Payload Too Large", body)?);
     Ok(())
 }
 
@@ -170,14 +200,14 @@ fn a_long_head_is_refused_and_closes(rt: HostRuntime) -> Result<(), Fail> {
     let mut target = bytes(alloc, b"GET /")?;
     target.extend(repeated(alloc, b"a", 8000)?.as_slice())?;
     let text = "Error 414: target too long\n";
-    assert!(rt; refuses(alloc, target.as_slice(), "414 URI Too Long", text)?);
+    assert!(rt; refuses(&rt, alloc, target.as_slice(), "414 URI Too Long", text)?);
     let status = "431 Request Header Fields Too Large";
     let head = repeated(alloc, b"a", 16_384)?;
     let text = "Error 431: head too long\n";
-    assert!(rt; refuses(alloc, head.as_slice(), status, text)?);
+    assert!(rt; refuses(&rt, alloc, head.as_slice(), status, text)?);
     let fields = with_fields(alloc, 65)?;
     let text = "Error 431: too many headers\n";
-    assert!(rt; refuses(alloc, fields.as_slice(), status, text)?);
+    assert!(rt; refuses(&rt, alloc, fields.as_slice(), status, text)?);
     Ok(())
 }
 
@@ -195,6 +225,7 @@ fn a_command_is_seen_by_the_next_question(rt: HostRuntime) -> Result<(), Fail> {
     )?;
     assert!(rt;
         serves(
+            &rt,
             alloc,
             input.as_slice(),
             SessionEnd::Closed,
@@ -206,6 +237,7 @@ fn a_command_is_seen_by_the_next_question(rt: HostRuntime) -> Result<(), Fail> {
     let part = REVISE.get(..REVISE.len() - 1).ok_or("short")?;
     assert!(rt;
         serves(
+            &rt,
             alloc,
             part,
             SessionEnd::Cut,
@@ -217,10 +249,10 @@ fn a_command_is_seen_by_the_next_question(rt: HostRuntime) -> Result<(), Fail> {
 }
 
 // Whether a request that is cut behind each of its bytes but the last ends the session so.
-fn is_cut_anywhere(alloc: Global) -> Result<bool, Fail> {
+fn is_cut_anywhere<R: Wait>(rt: &R, alloc: Global) -> Result<bool, Fail> {
     for size in 1..VERSION.len() {
         let part = VERSION.get(..size).ok_or("short")?;
-        if !serves(alloc, part, SessionEnd::Cut, 0, b"")? {
+        if !serves(rt, alloc, part, SessionEnd::Cut, 0, b"")? {
             return Ok(false);
         }
     }
@@ -230,13 +262,14 @@ fn is_cut_anywhere(alloc: Global) -> Result<bool, Fail> {
 #[test]
 fn a_session_ends_with_its_input(rt: HostRuntime) -> Result<(), Fail> {
     let alloc = rt.alloc();
-    assert!(rt; serves(alloc, b"", SessionEnd::Closed, 0, b"")?);
-    assert!(rt; serves(alloc, b"\r\n\n", SessionEnd::Closed, 0, b"")?);
-    assert!(rt; is_cut_anywhere(alloc)?);
+    assert!(rt; serves(&rt, alloc, b"", SessionEnd::Closed, 0, b"")?);
+    assert!(rt; serves(&rt, alloc, b"\r\n\n", SessionEnd::Closed, 0, b"")?);
+    assert!(rt; is_cut_anywhere(&rt, alloc)?);
     let two = repeated(alloc, VERSION, 2)?;
     let told = repeated(alloc, VERSION_TOLD, 2)?;
     assert!(rt;
         serves(
+            &rt,
             alloc,
             two.as_slice(),
             SessionEnd::Closed,
@@ -254,14 +287,15 @@ const LAST_TOLD: &[u8] =
 fn a_session_ends_behind_a_reply_that_closes(rt: HostRuntime) -> Result<(), Fail> {
     let alloc = rt.alloc();
     let old = b"GET /fdsnws/event/1/version HTTP/1.0\r\n\r\nGET";
-    assert!(rt; serves(alloc, old, SessionEnd::Closed, 1, LAST_TOLD)?);
+    assert!(rt; serves(&rt, alloc, old, SessionEnd::Closed, 1, LAST_TOLD)?);
     let asked = b"GET /fdsnws/event/1/version HTTP/1.1\r\nConnection: a, Close\r\n\r\nGET";
-    assert!(rt; serves(alloc, asked, SessionEnd::Closed, 1, LAST_TOLD)?);
+    assert!(rt; serves(&rt, alloc, asked, SessionEnd::Closed, 1, LAST_TOLD)?);
     let many = repeated(alloc, VERSION, 1001)?;
     let mut told = repeated(alloc, VERSION_TOLD, 999)?;
     told.extend(LAST_TOLD)?;
     assert!(rt;
         serves(
+            &rt,
             alloc,
             many.as_slice(),
             SessionEnd::Closed,
@@ -273,10 +307,16 @@ fn a_session_ends_behind_a_reply_that_closes(rt: HostRuntime) -> Result<(), Fail
 }
 
 // Whether a link that fails at this call ends the session so, with a first part written of what is written without.
-fn fails_at(alloc: Global, call: u64, end: SessionEnd, turns: usize) -> Result<bool, Fail> {
+fn fails_at<R: Wait>(
+    rt: &R,
+    alloc: Global,
+    call: u64,
+    end: SessionEnd,
+    turns: usize,
+) -> Result<bool, Fail> {
     let input = repeated(alloc, VERSION, 2)?;
     let whole = repeated(alloc, VERSION_TOLD, 2)?;
-    let served = serve(alloc, input.as_slice(), &[call])?;
+    let served = serve(rt, alloc, input.as_slice(), &[call])?;
     Ok(
         served.end == end
             && served.turns == turns
@@ -291,10 +331,10 @@ fn a_link_fails_at_each_call(rt: HostRuntime) -> Result<(), Fail> {
     let turns = [0, 1, 1, 2, 2, 2];
     for (turns, call) in turns.into_iter().zip(1..) {
         assert!(rt;
-            fails_at(alloc, call, SessionEnd::LinkFault, turns)?,
+            fails_at(&rt, alloc, call, SessionEnd::LinkFault, turns)?,
             "call {call}"
         );
     }
-    assert!(rt; fails_at(alloc, 7, SessionEnd::Closed, 2)?);
+    assert!(rt; fails_at(&rt, alloc, 7, SessionEnd::Closed, 2)?);
     Ok(())
 }

@@ -15,6 +15,7 @@ use http_digest::Secret;
 use http_replies::{BodyKind, Reply};
 use http_wire::{HeadFault, Request, Turn};
 use std::alloc::Global;
+use std::sync::Wait;
 
 /// The reply where memory ran out. It takes no memory.
 pub(crate) fn memory_reply(alloc: Global, front: u64, close: bool, head_only: bool) -> Reply
@@ -46,7 +47,8 @@ pub(crate) fn turn_without_entry(front: u64, moment: Moment, short: bool) -> Tur
 }
 
 /// The reply to a request at a moment, and its turn; a short one where memory runs out.
-pub(crate) fn request_turn<K: Desk>(
+pub(crate) fn request_turn<R: Wait, K: Desk>(
+    rt: &R,
     alloc: Global,
     desk: &mut K,
     request: &Request,
@@ -59,7 +61,7 @@ pub(crate) fn request_turn<K: Desk>(
     ensures step { (head : HeadView) → TurnStep (K.stand desk.old) (K.stand desk.new) (setting secret.now limits.now) (asked head request.now) moment result.1 result.0 }
     ensures sendable { IsSendable result.0 }
 {
-    match reply(alloc, desk, request, moment, secret, limits) {
+    match reply(rt, alloc, desk, request, moment, secret, limits) {
         Ok(told) => told,
         Err(OutOfMemory) => {
             let front = desk.front();

@@ -12,6 +12,7 @@ use exact_time::{Bytes, Moment, OutOfMemory};
 use http_digest::{Credentials, Secret};
 use query_words::{AvailQuery, EventQuery, StationQuery};
 use std::alloc::Global;
+use std::sync::Wait;
 
 /// What is asked for.
 #[derive(Debug, Drop)]
@@ -112,9 +113,11 @@ pub trait Desk {
         ensures { Asks (stand self.old) (stand self.new) question.now (setting secret.now limits.now) result };
 
     /// Judges what is posted over a history that begins with what was seen. On Accept the command's entry is the last
-    /// one that is seen after the call. All memory for the journal is taken before the first disk write.
-    fn submit(
+    /// one that is seen after the call. It may wait for the lock. All memory for the journal is taken before the first
+    /// disk write.
+    fn submit<R: Wait>(
         &mut self,
+        rt: &R,
         alloc: Global,
         posted: &Posted,
         moment: Moment,
@@ -124,8 +127,8 @@ pub trait Desk {
         requires { can_be_posted posted.now moment ≡ true }
         ensures { Submits (stand self.old) (stand self.new) posted.now moment (setting secret.now limits.now) result };
 
-    /// Sees what others published. It takes no memory.
-    fn catch_up(&mut self)
+    /// Sees what others published. It may wait for the lock, and takes no memory.
+    fn catch_up<R: Wait>(&mut self, rt: &R)
         ensures { CatchesUp (stand self.old) (stand self.new) };
 
     /// How many entries are seen.

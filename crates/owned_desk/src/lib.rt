@@ -6,13 +6,18 @@
 //! memory ran out behind the commit, or with it or without it where the disk stopped its commit (`LeavesLeft` in
 //! `specs/Owned.antt`).
 //!
+//! What every desk judges by: [`judge`], the verdict over the history of a state, and [`entry_from`], the entry that it
+//! becomes.
+//!
 //! The definitions: `specs/Owned.antt` says what a desk stands for, `specs/Waiting.antt` what waits beside the history.
 #![tactic(auto)]
 
+mod judging;
 mod kept;
 mod opening;
 mod owned;
 #[cfg(test)]
 mod tests;
 
+pub use judging::{Judged, entry_from, judge};
 pub use kept::OwnedDesk;

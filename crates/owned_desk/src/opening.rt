@@ -66,6 +66,7 @@ impl<D: Disk> OwnedDesk<D> {
     /// and nothing is left. It gives the disk no write and no cut: the disk reads as before.
     pub fn start(alloc: Global, disk: D) -> Result<OwnedDesk<D>, (D, StartFault)>
         ensures seen { WhereTold (D.view disk) (IfOk result (λ d. IsHistoryOf (D.view disk).content d.state)) }
+        ensures some { IfOk result (λ d. 1 ≤ length d.state) }
         ensures left { IfOk result (λ d. (d.short ≡ None) × (d.archive.hand ≡ None) × (d.stops ≡ 0)) }
         ensures opened { IfOk result (λ d. d.archive.faults ≤ (D.view d.archive.disk).faults) }
         ensures since { IfOk result (λ d. (D.view disk).faults ≤ d.archive.faults) }

@@ -1,34 +1,31 @@
 //! Asks and submits.
-ghost use Rattle.std.specs.Prelude.{◌≡◌, ◌⊎◌, ◌≤◌, ◌<◌, ◌+◌, ◌++◌, [], ◌∷◌, ℕ, List, length, true, false, None, Some, Option, Ok, OnErr, OnOk, IfOk, IsErr, IsErrOf, option_map, option_to_list};
+ghost use Rattle.std.specs.Prelude.{◌≡◌, ◌⊎◌, ◌≤◌, ◌<◌, ◌+◌, ◌++◌, [], ◌∷◌, ℕ, List, length, true, false, None, Some, Option, OnErr, OnOk, IsErr, IsErrOf, option_to_list};
 ghost use Rattle.exact_time.specs.Causes.{Rose};
 ghost use Rattle.disk_model.specs.View.{WhereTold, AlwaysLeaves, DiskRun};
-ghost use Rattle.epochs.specs.Kinds.{Text};
-ghost use Rattle.access_digest.specs.Who.{who_of};
 ghost use Rattle.archive_entry.specs.Spelling.{spelling};
 ghost use Rattle.archive_entry.specs.declared.entry.Entry.{Entry};
 ghost use Rattle.archive_state.specs.Admits.{IsAdmit, IsNextOf};
-ghost use Rattle.archive_state.specs.History.{live_of, earlier_of};
 ghost use Rattle.archive_state.specs.Lawful.{is_next, IsLawful};
-ghost use Rattle.archive_state.specs.declared.verdict.Verdict.TheVariants.{Accept};
 ghost use Rattle.archive_log.specs.Histories.{RecoversWithOrWithout};
 ghost use Rattle.desk_words.specs.Counts.{RoseWithin};
-ghost use Rattle.desk_words.specs.Posting.{can_be_posted, posted_entry, ruling};
+ghost use Rattle.desk_words.specs.Posting.{can_be_posted, posted_entry};
 ghost use Rattle.desk_words.specs.Setting.{setting};
 ghost use Rattle.desk_words.specs.Stand.{Asks, Submits, CatchesUp};
 ghost use Rattle.owned_desk.specs.Committing.{Commits, IsTheOne, first_hand};
 ghost use Rattle.owned_desk.specs.Owned.{stand_as};
 ghost use Rattle.owned_desk.specs.Waiting.{waits};
 
+use crate::judging::{Judged, entry_from, judge};
 use crate::kept::OwnedDesk;
-use access_digest::{WhoFault, who};
 use archive_entry::Entry;
 use archive_journal::{DiskFault, Frame};
 use archive_state::{Admit, Limits, Posted, State, Verdict};
 use desk_words::{Answer, Desk, Question, SubmitFault, Submitted, outcome};
 use disk_model::Disk;
-use exact_time::{Moment, OutOfMemory, Text};
+use exact_time::{Moment, OutOfMemory};
 use http_digest::Secret;
 use std::alloc::Global;
+use std::sync::Wait;
 
 fn note_short(admit: &mut Admit, short: &Option<Entry>) -> Result<(), OutOfMemory>
     requires { (e : Entry) → short.now ≡ Some e → IsNextOf admit.old e }
@@ -149,83 +146,6 @@ impl<D: Disk> OwnedDesk<D> {
     }
 }
 
-// A verdict, and the author of the command where it isn't denied.
-#[derive(Drop)]
-struct Judged {
-    verdict: Verdict,
-    author: Text,
-}
-
-// The entry of a command that was accepted.
-fn entry_from(
-    alloc: Global,
-    number: u64,
-    author: Text,
-    posted: &Posted,
-    moment: Moment,
-) -> Result<Entry, OutOfMemory>
-    ensures { IfOk result (λ entry. entry ≡ record { number = number; moment = moment; author = author; seq = posted.now.seq; kind = posted.now.kind; body = posted.now.body }) }
-{
-    Ok(Entry {
-        number,
-        moment,
-        author,
-        seq: posted.seq,
-        kind: posted.kind,
-        body: posted.body.copy(alloc)?,
-    })
-}
-
-impl<D: Disk> OwnedDesk<D> {
-    // The author's entry with that sequence number, found by look-ups.
-    fn earlier(&self, author: &[u8], seq: u64) -> Option<&Entry>
-        requires seq { 1 ≤ seq }
-        requires admit { IsAdmit self.now.admit self.now.state }
-        ensures { option_map (λ e. e.now) result ≡ earlier_of self.now.state author.now seq }
-    {
-        let number = self.admit.earlier(author, seq)?;
-        match self.state.entries().get(number as usize - 1) {
-            Some(entry) => Some(entry),
-            None => None,
-        }
-    }
-
-    // The verdict on what was posted.
-    fn judge(
-        &self,
-        alloc: Global,
-        posted: &Posted,
-        moment: Moment,
-        secret: &Secret,
-        limits: &Limits,
-    ) -> Result<Judged, OutOfMemory>
-        requires fit { can_be_posted posted.now moment ≡ true }
-        requires admit { IsAdmit self.now.admit self.now.state }
-        ensures verdict { IfOk result (λ j. j.verdict ≡ ruling self.now.state posted.now moment (setting secret.now limits.now)) }
-        ensures author { IfOk result (λ j. (n : ℕ) → j.verdict ≡ Accept n → who_of (live_of self.now.state) posted.now.credentials moment secret.now ≡ Ok j.author) }
-    {
-        let author = match who(
-            alloc,
-            self.state.catalog(),
-            &posted.credentials,
-            moment,
-            secret,
-        ) {
-            Ok(author) => author,
-            Err(WhoFault::Denied(denial)) => {
-                return Ok(Judged {
-                    verdict: Verdict::Denied(denial),
-                    author: Text::new(alloc),
-                });
-            }
-            Err(WhoFault::OutOfMemory) => return Err(OutOfMemory),
-        };
-        let earlier = self.earlier(author.as_slice(), posted.seq);
-        let verdict = self.admit.judge(posted, earlier, moment, secret, limits)?;
-        Ok(Judged { verdict, author })
-    }
-}
-
 impl<D: Disk> Desk for OwnedDesk<D> {
     ghost stand = { λ d. stand_as (D.view d.archive.disk).tells d.archive.faults d.state d.stops d.caught d.made d.short d.archive.hand };
 
@@ -245,8 +165,9 @@ impl<D: Disk> Desk for OwnedDesk<D> {
         })
     }
 
-    fn submit(
+    fn submit<R: Wait>(
         &mut self,
+        _rt: &R,
         alloc: Global,
         posted: &Posted,
         moment: Moment,
@@ -266,7 +187,15 @@ impl<D: Disk> Desk for OwnedDesk<D> {
         let _count = self.count();
         self.flush()?;
         let judged = self.state.entries().len() as u64;
-        let Judged { verdict, author } = self.judge(alloc, posted, moment, secret, limits)?;
+        let Judged { verdict, author } = judge(
+            alloc,
+            &self.admit,
+            &self.state,
+            posted,
+            moment,
+            secret,
+            limits,
+        )?;
         let Verdict::Accept(number) = verdict else {
             return Ok(Submitted {
                 verdict,
@@ -283,7 +212,7 @@ impl<D: Disk> Desk for OwnedDesk<D> {
         })
     }
 
-    fn catch_up(&mut self)
+    fn catch_up<R: Wait>(&mut self, _rt: &R)
         ensures row { CatchesUp (stand_as (D.view self.old.archive.disk).tells self.old.archive.faults self.old.state self.old.stops self.old.caught self.old.made self.old.short self.old.archive.hand)
             (stand_as (D.view self.new.archive.disk).tells self.new.archive.faults self.new.state self.new.stops self.new.caught self.new.made self.new.short self.new.archive.hand) }
         ensures stops { self.new.stops ≡ self.old.stops }

@@ -13,6 +13,7 @@ use exact_time::{Bytes, Many, Moment};
 use http_digest::{Credentials, Secret};
 use query_words::{AvailMethod, avail_get, data_get};
 use std::alloc::Global;
+use std::sync::Wait;
 use std::test::Fail;
 
 const HA1: &str = "939e7578ed9e3c518a452acee763bce9";
@@ -102,7 +103,8 @@ fn fits(posted: &Posted, moment: Moment) -> bool
 }
 
 // Posts it now.
-fn post<D: Disk>(
+fn post<R: Wait, D: Disk>(
+    rt: &R,
     alloc: Global,
     desk: &mut OwnedDesk<D>,
     posted: &Posted,
@@ -110,7 +112,7 @@ fn post<D: Disk>(
     if !fits(posted, NOW) {
         return Err("not a post".into());
     }
-    Ok(desk.submit(alloc, posted, NOW, &SECRET, &Limits::FULL))
+    Ok(desk.submit(rt, alloc, posted, NOW, &SECRET, &Limits::FULL))
 }
 
 // A synced disk with this file, which fails at these calls.
@@ -122,27 +124,53 @@ fn disk_of(alloc: Global, file: &[u8], fails: &[u64]) -> Result<MemoryDisk, Fail
     Ok(MemoryDisk::new(alloc, bytes(alloc, file)?, calls)?)
 }
 
-// The file of an archive: the founding entry of op, the users feed1 and ada, and the record by feed1.
-fn archive_file(alloc: Global) -> Result<Bytes, Fail> {
-    let disk = match Archive::found(alloc, disk_of(alloc, b"", &[])?, "op", HA1) {
-        Ok(archive) => archive.close(),
-        Err((_, fault)) => return Err(fault.into()),
-    };
-    let mut desk = match OwnedDesk::start(alloc, disk) {
-        Ok(desk) => desk,
-        Err((_, fault)) => return Err(fault.into()),
-    };
-    let users = revision(alloc, "op", 1, USERS)?;
-    let record = batch(alloc, "feed1", 1, &anmo_record())?;
-    for posted in [users, record] {
-        let Ok(told) = post(alloc, &mut desk, &posted)? else {
-            return Err("not added".into());
-        };
-        let Verdict::Accept(_) = told.verdict else {
-            return Err("not accepted".into());
-        };
+// The desk of a disk that holds an archive.
+fn opened<D: Disk + Drop>(alloc: Global, disk: D) -> Result<OwnedDesk<D>, Fail> {
+    match OwnedDesk::start(alloc, disk) {
+        Ok(desk) => Ok(desk),
+        Err((_, fault)) => Err(fault.into()),
     }
+}
+
+// The desk of a synced disk with this file.
+fn desk_of(alloc: Global, file: &[u8]) -> Result<OwnedDesk<MemoryDisk>, Fail> {
+    opened(alloc, disk_of(alloc, file, &[])?)
+}
+
+// What a crash leaves of the file.
+fn file_left(desk: OwnedDesk<MemoryDisk>) -> Result<Bytes, Fail> {
     Ok(desk.close().image(Choice::Old)?)
+}
+
+// A disk with a new archive of op.
+fn founded(alloc: Global) -> Result<MemoryDisk, Fail> {
+    match Archive::found(alloc, disk_of(alloc, b"", &[])?, "op", HA1) {
+        Ok(archive) => Ok(archive.close()),
+        Err((_, fault)) => Err(fault.into()),
+    }
+}
+
+// Posts it, and it is accepted as the entry of this number.
+fn add<R: Wait>(
+    rt: &R,
+    alloc: Global,
+    desk: &mut OwnedDesk<MemoryDisk>,
+    posted: &Posted,
+    front: u64,
+) -> Result<(), Fail> {
+    if post(rt, alloc, desk, posted)??.verdict == Verdict::Accept(front) {
+        return Ok(());
+    }
+    Err("not accepted".into())
+}
+
+// The file of an archive: the founding entry of op, the users feed1 and ada, and the record by feed1.
+fn archive_file<R: Wait>(rt: &R, alloc: Global) -> Result<Bytes, Fail> {
+    let mut desk = opened(alloc, founded(alloc)?)?;
+    add(rt, alloc, &mut desk, &revision(alloc, "op", 1, USERS)?, 2)?;
+    let record = batch(alloc, "feed1", 1, &anmo_record())?;
+    add(rt, alloc, &mut desk, &record, 3)?;
+    file_left(desk)
 }
 
 // How many entries a desk sees that starts from this file, or why none starts.
@@ -181,94 +209,159 @@ fn records_asked<D: Disk>(
     asked(alloc, desk, wanted, None, least)
 }
 
+// The records of IU, over all that the desk sees.
+fn body_asked<D: Disk>(alloc: Global, desk: &mut OwnedDesk<D>, least: u64) -> Result<Bytes, Fail> {
+    match records_asked(alloc, desk, least)? {
+        (front, Outcome::Body(body)) if front == desk.front() => Ok(body),
+        _ => Err("no records".into()),
+    }
+}
+
+// Whether a desk sees fewer entries than are asked for.
+fn is_behind(alloc: Global, desk: &mut OwnedDesk<MemoryDisk>, least: u64) -> Result<bool, Fail> {
+    match records_asked(alloc, desk, least)? {
+        (front, Outcome::Behind) => Ok(front == desk.front()),
+        _ => Ok(false),
+    }
+}
+
+// The records of IU that a user sees, or nobody in particular; there may be none.
+fn seen_by(
+    alloc: Global,
+    desk: &mut OwnedDesk<MemoryDisk>,
+    user: Option<&str>,
+) -> Result<Option<Bytes>, Fail> {
+    let credentials = match user {
+        Some(name) => Some(credentials(alloc, name)?),
+        None => None,
+    };
+    let wanted = Wanted::Waves(data_get(alloc, b"net=IU")?);
+    match asked(alloc, desk, wanted, credentials, 0)? {
+        (_, Outcome::Body(body)) => Ok(Some(body)),
+        (_, Outcome::Empty) => Ok(None),
+        _ => Err("not answered".into()),
+    }
+}
+
+// Whether the extents of IU that a user sees end so.
+fn extent_ends(
+    alloc: Global,
+    desk: &mut OwnedDesk<MemoryDisk>,
+    user: &str,
+    end: &[u8],
+) -> Result<bool, Fail> {
+    let credentials = Some(credentials(alloc, user)?);
+    let wanted = Wanted::Extent(avail_get(alloc, b"net=IU", AvailMethod::Extent)?);
+    match asked(alloc, desk, wanted, credentials, 0)? {
+        (_, Outcome::Body(text)) => Ok(text.as_slice().ends_with(end)),
+        _ => Ok(false),
+    }
+}
+
+// What is told of a post: the verdict, how many entries it was judged over, and how many there are then.
+fn told<R: Wait>(
+    rt: &R,
+    alloc: Global,
+    desk: &mut OwnedDesk<MemoryDisk>,
+    posted: &Posted,
+) -> Result<(Verdict, u64, u64), Fail> {
+    let told = post(rt, alloc, desk, posted)??;
+    Ok((told.verdict, told.judged, told.front))
+}
+
 #[test]
 fn adds_once_what_is_posted(rt: HostRuntime) -> Result<(), Fail> {
     let alloc = rt.alloc();
-    let file = archive_file(alloc)?;
-    let mut desk = match OwnedDesk::start(alloc, disk_of(alloc, file.as_slice(), &[])?) {
-        Ok(desk) => desk,
-        Err((_, fault)) => return Err(fault.into()),
-    };
+    let file = archive_file(&rt, alloc)?;
+    let mut desk = desk_of(alloc, file.as_slice())?;
     assert_eq!(rt; (desk.front(), desk.stops()), (3, 0));
-    let slow = three_hertz_record();
     let again = batch(alloc, "feed1", 2, &anmo_record())?;
-    let told = post(alloc, &mut desk, &again)??;
+    let slow = three_hertz_record();
+    let other = batch(alloc, "feed1", 2, &slow)?;
+    let late = batch(alloc, "feed1", 5, &slow)?;
     assert_eq!(rt;
-        (told.verdict, told.judged, told.front),
+        told(&rt, alloc, &mut desk, &again)?,
         (Verdict::Accept(4), 3, 4)
     );
-    let told = post(alloc, &mut desk, &again)??;
     assert_eq!(rt;
-        (told.verdict, told.judged, told.front),
+        told(&rt, alloc, &mut desk, &again)?,
         (Verdict::Repeat(4), 4, 4)
     );
-    let other = batch(alloc, "feed1", 2, &slow)?;
     assert_eq!(rt;
-        post(alloc, &mut desk, &other)??.verdict,
+        told(&rt, alloc, &mut desk, &other)?.0,
         Verdict::OtherBody(4)
     );
-    let late = batch(alloc, "feed1", 5, &slow)?;
-    assert_eq!(rt; post(alloc, &mut desk, &late)??.verdict, Verdict::Gap(2));
-    desk.catch_up();
+    assert_eq!(rt; told(&rt, alloc, &mut desk, &late)?.0, Verdict::Gap(2));
+    desk.catch_up(&rt);
     // The record is held once, though two entries bring it.
-    match records_asked(alloc, &mut desk, 4)? {
-        (front, Outcome::Body(body)) => {
-            assert_eq!(rt; front, 4);
-            assert_eq!(rt; body.as_slice(), anmo_record().as_slice());
-        }
-        _ => return Err("no records".into()),
-    }
-    match records_asked(alloc, &mut desk, 5)? {
-        (front, Outcome::Behind) => assert_eq!(rt; front, 4),
-        _ => return Err("not behind".into()),
-    }
     assert_eq!(rt;
-        front_of(alloc, desk.close().image(Choice::Old)?.as_slice())?,
-        Ok(4)
+        body_asked(alloc, &mut desk, 4)?.as_slice(),
+        anmo_record().as_slice()
     );
+    assert!(rt; is_behind(alloc, &mut desk, 5)?);
+    assert_eq!(rt; front_of(alloc, file_left(desk)?.as_slice())?, Ok(4));
     Ok(())
 }
 
-// What the images hold of a disk that stops after so many calls, where a record is posted twice: both posts are stopped,
-// and questions are answered. Posted again to what a crash leaves, the record is added, or was.
-fn stopped_at(alloc: Global, file: &[u8], calls: u64) -> Result<[u64; 4], Fail> {
-    let fuse = FuseDisk::new(disk_of(alloc, file, &[])?, calls);
-    let mut desk = match OwnedDesk::start(alloc, fuse) {
-        Ok(desk) => desk,
-        Err((_, fault)) => return Err(fault.into()),
-    };
-    let posted = batch(alloc, "feed1", 2, &three_hertz_record())?;
-    for times in [1, 2] {
-        let stopped = post(alloc, &mut desk, &posted)?.err() == Some(SubmitFault::Stopped);
-        if !stopped || (desk.front(), desk.stops()) != (3, times) {
-            return Err("not stopped".into());
-        }
+// Posts it twice, and both times the disk stops it; questions are answered as before.
+fn stop_twice<R: Wait, D: Disk>(
+    rt: &R,
+    alloc: Global,
+    desk: &mut OwnedDesk<D>,
+    posted: &Posted,
+) -> Result<(), Fail> {
+    let first = post(rt, alloc, desk, posted)?.err() == Some(SubmitFault::Stopped);
+    let once = (desk.front(), desk.stops()) == (3, 1);
+    let second = post(rt, alloc, desk, posted)?.err() == Some(SubmitFault::Stopped);
+    let twice = (desk.front(), desk.stops()) == (3, 2);
+    let _records = body_asked(alloc, desk, 3)?;
+    if first && once && second && twice {
+        return Ok(());
     }
-    let (_, Outcome::Body(_)) = records_asked(alloc, &mut desk, 3)? else {
-        return Err("not answered".into());
-    };
-    let disk = desk.close().into_disk();
-    let choices = [Choice::Old, Choice::New, Choice::Fill(0), Choice::Fill(255)];
-    let mut fronts = [0; 4];
-    for (front, choice) in fronts.iter_mut().zip(choices) {
-        *front = posted_again(alloc, disk.image(choice)?.as_slice(), &posted)?;
-    }
-    Ok(fronts)
+    Err("not stopped".into())
 }
 
-// How many entries a desk sees that starts from this file; posted again, the entry is the fourth one.
-fn posted_again(alloc: Global, file: &[u8], posted: &Posted) -> Result<u64, Fail> {
-    let mut desk = match OwnedDesk::start(alloc, disk_of(alloc, file, &[])?) {
-        Ok(desk) => desk,
-        Err((_, fault)) => return Err(fault.into()),
-    };
+// The disk that stops after so many calls, where a record is posted twice.
+fn stopped_disk<R: Wait>(
+    rt: &R,
+    alloc: Global,
+    file: &[u8],
+    calls: u64,
+    posted: &Posted,
+) -> Result<MemoryDisk, Fail> {
+    let mut desk = opened(alloc, FuseDisk::new(disk_of(alloc, file, &[])?, calls))?;
+    stop_twice(rt, alloc, &mut desk, posted)?;
+    Ok(desk.close().into_disk())
+}
+
+// How many entries a desk sees that starts from this image; posted again, the entry is the fourth one.
+fn posted_again<R: Wait>(
+    rt: &R,
+    alloc: Global,
+    disk: &MemoryDisk,
+    choice: Choice,
+    posted: &Posted,
+) -> Result<u64, Fail> {
+    let mut desk = desk_of(alloc, disk.image(choice)?.as_slice())?;
     let front = desk.front();
-    let told = post(alloc, &mut desk, posted)??;
-    match (front, told.verdict) {
+    match (front, told(rt, alloc, &mut desk, posted)?.0) {
         (3, Verdict::Accept(4)) => Ok(front),
         (4, Verdict::Repeat(4)) => Ok(front),
         _ => Err("not with it or without it".into()),
     }
+}
+
+// What the images hold of a disk that stops after so many calls, where a record is posted twice. Posted again to what a
+// crash leaves, the record is added, or was.
+fn stopped_at<R: Wait>(rt: &R, alloc: Global, file: &[u8], calls: u64) -> Result<[u64; 4], Fail> {
+    let posted = batch(alloc, "feed1", 2, &three_hertz_record())?;
+    let disk = stopped_disk(rt, alloc, file, calls, &posted)?;
+    Ok([
+        posted_again(rt, alloc, &disk, Choice::Old, &posted)?,
+        posted_again(rt, alloc, &disk, Choice::New, &posted)?,
+        posted_again(rt, alloc, &disk, Choice::Fill(0), &posted)?,
+        posted_again(rt, alloc, &disk, Choice::Fill(255), &posted)?,
+    ])
 }
 
 // A start of three entries makes ten calls: a sync, the length, the magic, four gates and three entries. A commit makes
@@ -276,20 +369,12 @@ fn posted_again(alloc: Global, file: &[u8], posted: &Posted) -> Result<u64, Fail
 #[test]
 fn stops_with_it_or_without_it(rt: HostRuntime) -> Result<(), Fail> {
     let alloc = rt.alloc();
-    let file = archive_file(alloc)?;
-    let stops = [
-        (10, [3, 3, 3, 3]),
-        (11, [3, 3, 3, 3]),
-        (12, [3, 3, 3, 3]),
-        (13, [3, 4, 3, 3]),
-    ];
-    for (calls, wanted) in stops {
-        assert_eq!(rt;
-            stopped_at(alloc, file.as_slice(), calls)?,
-            wanted,
-            "after {calls}"
-        );
-    }
+    let file = archive_file(&rt, alloc)?;
+    let file = file.as_slice();
+    assert_eq!(rt; stopped_at(&rt, alloc, file, 10)?, [3, 3, 3, 3]);
+    assert_eq!(rt; stopped_at(&rt, alloc, file, 11)?, [3, 3, 3, 3]);
+    assert_eq!(rt; stopped_at(&rt, alloc, file, 12)?, [3, 3, 3, 3]);
+    assert_eq!(rt; stopped_at(&rt, alloc, file, 13)?, [3, 4, 3, 3]);
     Ok(())
 }
 
@@ -297,26 +382,16 @@ fn stops_with_it_or_without_it(rt: HostRuntime) -> Result<(), Fail> {
 #[test]
 fn a_fault_stays(rt: HostRuntime) -> Result<(), Fail> {
     let alloc = rt.alloc();
-    let file = archive_file(alloc)?;
-    let mut desk = match OwnedDesk::start(alloc, disk_of(alloc, file.as_slice(), &[11])?) {
-        Ok(desk) => desk,
-        Err((_, fault)) => return Err(fault.into()),
-    };
+    let file = archive_file(&rt, alloc)?;
+    let mut desk = opened(alloc, disk_of(alloc, file.as_slice(), &[11])?)?;
     let posted = batch(alloc, "feed1", 2, &three_hertz_record())?;
-    for times in [1, 2] {
-        assert_eq!(rt;
-            post(alloc, &mut desk, &posted)?.err(),
-            Some(SubmitFault::Stopped)
-        );
-        assert_eq!(rt; (desk.front(), desk.stops()), (3, times));
-    }
-    let (_, Outcome::Body(_)) = records_asked(alloc, &mut desk, 3)? else {
-        return Err("not answered".into());
-    };
+    stop_twice(&rt, alloc, &mut desk, &posted)?;
     // What changes nothing is judged as ever.
     let unknown = batch(alloc, "bob", 1, b"")?;
-    let told = post(alloc, &mut desk, &unknown)??;
-    assert_eq!(rt; told.verdict, Verdict::Denied(Denial::UnknownUser));
+    assert_eq!(rt;
+        told(&rt, alloc, &mut desk, &unknown)?.0,
+        Verdict::Denied(Denial::UnknownUser)
+    );
     Ok(())
 }
 
@@ -328,7 +403,7 @@ fn starts_from_no_other_file(rt: HostRuntime) -> Result<(), Fail> {
         front_of(alloc, b"FDSNARCHIVE-0001\0")?,
         Err(StartFault::Damaged(16))
     );
-    let file = archive_file(alloc)?;
+    let file = archive_file(&rt, alloc)?;
     assert_eq!(rt; front_of(alloc, file.as_slice())?, Ok(3));
     // The user's entry is the second one: its gate is at 102, behind 16 bytes, 5 and 81.
     let mut wrong = bytes(alloc, file.as_slice().get(..114).ok_or("too short")?)?;
@@ -345,55 +420,30 @@ fn starts_from_no_other_file(rt: HostRuntime) -> Result<(), Fail> {
 #[test]
 fn a_grant_shows_what_a_restriction_hides(rt: HostRuntime) -> Result<(), Fail> {
     let alloc = rt.alloc();
-    let file = archive_file(alloc)?;
-    let mut desk = match OwnedDesk::start(alloc, disk_of(alloc, file.as_slice(), &[])?) {
-        Ok(desk) => desk,
-        Err((_, fault)) => return Err(fault.into()),
-    };
-    let lines = revision(alloc, "op", 2, RESTRICTED)?;
-    assert_eq!(rt;
-        post(alloc, &mut desk, &lines)??.verdict,
-        Verdict::Accept(4)
-    );
-    let (_, Outcome::Empty) = records_asked(alloc, &mut desk, 0)? else {
-        return Err("shown".into());
-    };
-    let ada = Some(credentials(alloc, "ada")?);
-    let records = Wanted::Waves(data_get(alloc, b"net=IU")?);
-    match asked(alloc, &mut desk, records, ada, 0)? {
-        (_, Outcome::Body(body)) => assert_eq!(rt; body.as_slice(), anmo_record().as_slice()),
-        _ => return Err("hidden".into()),
-    }
-    let ada = Some(credentials(alloc, "ada")?);
-    let extent = Wanted::Extent(avail_get(alloc, b"net=IU", AvailMethod::Extent)?);
-    match asked(alloc, &mut desk, extent, ada, 0)? {
-        (_, Outcome::Body(text)) => assert!(rt; text.as_slice().ends_with(b" RESTRICTED\n")),
-        _ => return Err("no extent".into()),
-    }
+    let file = archive_file(&rt, alloc)?;
+    let mut desk = desk_of(alloc, file.as_slice())?;
+    add(
+        &rt,
+        alloc,
+        &mut desk,
+        &revision(alloc, "op", 2, RESTRICTED)?,
+        4,
+    )?;
+    assert!(rt; seen_by(alloc, &mut desk, None)?.is_none());
+    let shown = seen_by(alloc, &mut desk, Some("ada"))?;
+    assert_eq!(rt; shown.ok_or("hidden")?.as_slice(), anmo_record().as_slice());
+    assert!(rt; extent_ends(alloc, &mut desk, "ada", b" RESTRICTED\n")?);
     let none = revision(alloc, "op", 3, "DEL|GRT|ada|IU|ANMO|00|BHZ|2024-01-01\n")?;
-    assert_eq!(rt; post(alloc, &mut desk, &none)??.verdict, Verdict::Accept(5));
-    let ada = Some(credentials(alloc, "ada")?);
-    let records = Wanted::Waves(data_get(alloc, b"net=IU")?);
-    let (_, Outcome::Empty) = asked(alloc, &mut desk, records, ada, 0)? else {
-        return Err("shown again".into());
-    };
+    add(&rt, alloc, &mut desk, &none, 5)?;
+    assert!(rt; seen_by(alloc, &mut desk, Some("ada"))?.is_none());
     Ok(())
 }
 
 // Whether nobody in particular is told of a record that is hidden before it is added.
-fn hides(alloc: Global, file: &[u8], record: &[u8]) -> Result<bool, Fail> {
-    let mut desk = match OwnedDesk::start(alloc, disk_of(alloc, file, &[])?) {
-        Ok(desk) => desk,
-        Err((_, fault)) => return Err(fault.into()),
-    };
-    let hide = revision(alloc, "op", 2, HIDDEN)?;
-    if post(alloc, &mut desk, &hide)??.verdict != Verdict::Accept(4) {
-        return Err("not accepted".into());
-    }
-    let added = batch(alloc, "feed1", 2, record)?;
-    if post(alloc, &mut desk, &added)??.verdict != Verdict::Accept(5) {
-        return Err("not accepted".into());
-    }
+fn hides<R: Wait>(rt: &R, alloc: Global, file: &[u8], record: &[u8]) -> Result<bool, Fail> {
+    let mut desk = desk_of(alloc, file)?;
+    add(rt, alloc, &mut desk, &revision(alloc, "op", 2, HIDDEN)?, 4)?;
+    add(rt, alloc, &mut desk, &batch(alloc, "feed1", 2, record)?, 5)?;
     match records_asked(alloc, &mut desk, 0)? {
         (5, Outcome::Empty) => Ok(true),
         _ => Ok(false),
@@ -404,8 +454,8 @@ fn hides(alloc: Global, file: &[u8], record: &[u8]) -> Result<bool, Fail> {
 #[test]
 fn what_is_hidden_is_not_told(rt: HostRuntime) -> Result<(), Fail> {
     let alloc = rt.alloc();
-    let file = archive_file(alloc)?;
-    assert!(rt; hides(alloc, file.as_slice(), &anmo_record())?);
-    assert!(rt; hides(alloc, file.as_slice(), &three_hertz_record())?);
+    let file = archive_file(&rt, alloc)?;
+    assert!(rt; hides(&rt, alloc, file.as_slice(), &anmo_record())?);
+    assert!(rt; hides(&rt, alloc, file.as_slice(), &three_hertz_record())?);
     Ok(())
 }

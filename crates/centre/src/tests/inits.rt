@@ -1,10 +1,11 @@
 //! Runs of `init` over disks in memory.
-use super::runs::owned_words;
-use crate::{INIT_HELP, MemorySink, MemorySource, run};
+use super::runs::run_over;
+use crate::{INIT_HELP, MemorySink, MemorySource};
 use disk_model::{Choice, MemoryDisk};
 use exact_time::{Bytes, Many};
 use std::alloc::Global;
 use std::process::Abort;
+use std::sync::Wait;
 use std::test::Fail;
 
 const HA1: &str = "939e7578ed9e3c518a452acee763bce9";
@@ -12,6 +13,11 @@ const HA1: &str = "939e7578ed9e3c518a452acee763bce9";
 // The journal with the founding entry of op: 103 bytes.
 const FOUNDED: &[u8] =
     b"FDSNARCHIVE-0001\x01\0\0\0\x51\0\0\0\0\0\0\0\x01\0\0\0\0\0\0\0\0\x02op\0\0\0\0\0\0\0\0\x02\0\0\0\x31USR|op|939e7578ed9e3c518a452acee763bce9|operator\n\0";
+
+/// That file.
+pub fn founded() -> &'static [u8] {
+    FOUNDED
+}
 
 // A synced disk with this file, whose call of this number fails; 0 is none.
 fn disk_of(alloc: Global, file: &[u8], fails: u64) -> Result<MemoryDisk, Fail> {
@@ -24,7 +30,7 @@ fn disk_of(alloc: Global, file: &[u8], fails: u64) -> Result<MemoryDisk, Fail> {
 
 // Runs the words over a disk, and compares the status and the texts. It gives the disk back.
 fn check_on(
-    rt: &(impl Abort + AllocGlobal),
+    rt: &(impl Abort + AllocGlobal + Wait),
     words: &[&str],
     disk: MemoryDisk,
     status: u8,
@@ -32,11 +38,10 @@ fn check_on(
     text: &str,
 ) -> Result<MemoryDisk, Fail> {
     let alloc = rt.alloc();
-    let words = owned_words(alloc, words)?;
     let mut source = MemorySource::new(Many::new(alloc), Many::new(alloc));
     let mut sink = MemorySink::new(alloc, Many::new(alloc));
     let mut errors = MemorySink::new(alloc, Many::new(alloc));
-    let ended = run(rt, alloc, &words, &mut source, &mut sink, &mut errors, disk);
+    let ended = run_over(rt, words, &mut source, &mut sink, &mut errors, disk)?;
     assert_eq!(rt; ended.status, status);
     assert_eq!(rt; sink.told().ok_or("lost")?, output.as_bytes());
     assert_eq!(rt; errors.told().ok_or("lost")?, text.as_bytes());

@@ -1,8 +1,8 @@
 //! Inputs as long as may be, and one byte longer.
 ghost use Rattle.std.specs.Prelude.{None};
 
-use super::runs::empty_disk;
-use crate::{MemorySink, Source, Stream, run};
+use super::runs::{empty_disk, run_over};
+use crate::{MemorySink, Source, Stream};
 use exact_time::{Failed, Many};
 use std::alloc::Global;
 use std::test::Fail;
@@ -33,10 +33,7 @@ impl Source for Zeros {
 #[test]
 fn takes_64_mebibytes_at_most(rt: HostRuntime) -> Result<(), Fail> {
     let alloc = rt.alloc();
-    let mut words: Vec<String> = Vec::new(alloc);
-    for word in ["select", "*", "*", "*", "*", "2024-02-01", "2024-02-02"] {
-        words.push(String::from_str(alloc, word)?)?;
-    }
+    let words = ["select", "*", "*", "*", "*", "2024-02-01", "2024-02-02"];
     // Zeros have no year, of which is told only where the input may be so long.
     for (size, wanted, text) in [
         (67_108_864, 2, "centre: record at offset 0: Year\n"),
@@ -46,15 +43,7 @@ fn takes_64_mebibytes_at_most(rt: HostRuntime) -> Result<(), Fail> {
         let mut sink = MemorySink::new(alloc, Many::new(alloc));
         let mut errors = MemorySink::new(alloc, Many::new(alloc));
         let disk = empty_disk(alloc)?;
-        let ended = run(
-            &rt,
-            alloc,
-            &words,
-            &mut source,
-            &mut sink,
-            &mut errors,
-            disk,
-        );
+        let ended = run_over(&rt, &words, &mut source, &mut sink, &mut errors, disk)?;
         assert_eq!(rt; ended.status, wanted);
         assert_eq!(rt; errors.told().ok_or("lost")?, text.as_bytes());
     }

@@ -6,6 +6,7 @@ use dataselect::{All, DataQuery, Nodata, PlainShelf, Selection, Shelf, answer};
 use exact_time::{Bytes, Many, Moment};
 use std::alloc::Global;
 use std::process::Abort;
+use std::sync::Wait;
 use std::test::Fail;
 
 const NO_DATA: &str = "centre: no data\n";
@@ -23,7 +24,7 @@ fn joined(alloc: Global, records: &[[u8; 512]]) -> Result<Bytes, Fail> {
 
 // Runs the usual query with options over the records: those at the places are written.
 fn check_options(
-    rt: &(impl Abort + AllocGlobal),
+    rt: &(impl Abort + AllocGlobal + Wait),
     options: &[&str],
     records: &[[u8; 512]],
     places: &[usize],
@@ -54,7 +55,7 @@ fn check_options(
 
 // Runs the usual query with options over one record: they are refused.
 fn check_refused(
-    rt: &(impl Abort + AllocGlobal),
+    rt: &(impl Abort + AllocGlobal + Wait),
     options: &[&str],
     status: u8,
     text: &str,
@@ -138,7 +139,9 @@ fn refuses_options(rt: HostRuntime) -> Result<(), Fail> {
         "centre: query: Value QUALITY\n",
     )?;
     let minimum = "centre: query: Value MINIMUM\n";
-    check_refused(&rt, &["--longest", "no", "--minimum", "-1"], 2, minimum)?;
+    check_refused(&rt, &["--longest", "no", "--minimum=-1"], 2, minimum)?;
+    // A value that begins with a hyphen stands behind the sign.
+    check_refused(&rt, &["--minimum", "-1"], 1, UNKNOWN)?;
     check_refused(
         &rt,
         &["--longest", "yes"],

@@ -2,11 +2,16 @@
 use super::records::{
     anmo_record, anmo_record_at, changed, little_endian_record, three_hertz_record,
 };
-use crate::{HELP, MemorySink, MemorySource, SELECT_HELP, StdSink, StdSource, run};
+use crate::{
+    Ended, HELP, MemorySink, MemorySource, SELECT_HELP, Sink, Source, StdSink, StdSource, run,
+};
+use centre_session::FixedClock;
 use disk_model::MemoryDisk;
-use exact_time::{Bytes, Many, OutOfMemory};
+use exact_time::{Bytes, Many, Moment, OutOfMemory};
+use http_digest::Secret;
 use std::alloc::Global;
 use std::process::Abort;
+use std::sync::Wait;
 use std::test::Fail;
 
 // Which calls of the source and of the sink fail, from 1; 0 is none.
@@ -18,7 +23,24 @@ struct Faults {
 
 const NO_FAULTS: Faults = Faults { source: 0, sink: 0 };
 
-pub fn owned_words(alloc: Global, words: &[&str]) -> Result<Vec<String>, Fail> {
+const SECRET: Secret = Secret {
+    bytes: [0, 1, 2, 3, 4, 5, 6, 7, 8, 9, 10, 11, 12, 13, 14, 15],
+};
+
+// 2024-03-01T00:00:00
+const NOW: Moment = Moment {
+    micros: 1_709_251_200_000_000,
+};
+
+// A clock that stands still.
+fn clock() -> Result<FixedClock, Fail> {
+    if !NOW.is_clock_moment() {
+        return Err("no moment".into());
+    }
+    Ok(FixedClock::new(NOW))
+}
+
+fn owned_words(alloc: Global, words: &[&str]) -> Result<Vec<String>, Fail> {
     let mut owned = Vec::new(alloc);
     for word in words {
         owned.push(String::from_str(alloc, word)?)?;
@@ -48,9 +70,44 @@ pub fn empty_disk(alloc: Global) -> Result<MemoryDisk, OutOfMemory> {
     MemoryDisk::new(alloc, Bytes::new(alloc), Many::new(alloc))
 }
 
+/// How a run ended: its status, how many turns its session had if it came to one, and the disk.
+#[derive(Drop)]
+pub struct Ran {
+    pub status: u8,
+    pub turns: Option<usize>,
+    pub disk: MemoryDisk,
+}
+
+/// Runs the words over these streams and a disk, at one moment.
+pub fn run_over<R: AllocGlobal + Wait, S: Source, K: Sink>(
+    rt: &R,
+    words: &[&str],
+    source: &mut S,
+    sink: &mut K,
+    errors: &mut MemorySink,
+    disk: MemoryDisk,
+) -> Result<Ran, Fail> {
+    let alloc = rt.alloc();
+    let words = owned_words(alloc, words)?;
+    let mut clock = clock()?;
+    let Ended {
+        status,
+        disk,
+        trail,
+    } = run(
+        rt, alloc, &words, SECRET, source, sink, errors, disk, &mut clock,
+    );
+    let turns = trail.map(|trail| trail.as_slice().len());
+    Ok(Ran {
+        status,
+        turns,
+        disk,
+    })
+}
+
 // Runs the words over the input, and compares the status, the output and the text on the errors.
 fn check_with(
-    rt: &(impl Abort + AllocGlobal),
+    rt: &(impl Abort + AllocGlobal + Wait),
     faults: Faults,
     words: &[&str],
     input: &[u8],
@@ -59,12 +116,11 @@ fn check_with(
     text: &str,
 ) -> Result<(), Fail> {
     let alloc = rt.alloc();
-    let words = owned_words(alloc, words)?;
     let mut source = MemorySource::new(pieces(alloc, input)?, one_call(alloc, faults.source)?);
     let mut sink = MemorySink::new(alloc, one_call(alloc, faults.sink)?);
     let mut errors = MemorySink::new(alloc, Many::new(alloc));
     let disk = empty_disk(alloc)?;
-    let ended = run(rt, alloc, &words, &mut source, &mut sink, &mut errors, disk);
+    let ended = run_over(rt, words, &mut source, &mut sink, &mut errors, disk)?;
     assert_eq!(rt; ended.status, status);
     assert_eq!(rt; sink.told().ok_or("lost")?, output);
     assert_eq!(rt; errors.told().ok_or("lost")?, text.as_bytes());
@@ -73,7 +129,7 @@ fn check_with(
 
 /// Runs the words over the input without a fault, and compares.
 pub fn check(
-    rt: &(impl Abort + AllocGlobal),
+    rt: &(impl Abort + AllocGlobal + Wait),
     words: &[&str],
     input: &[u8],
     status: u8,
@@ -85,7 +141,7 @@ pub fn check(
 
 // Checks a window over one record: all of it, or nothing.
 fn check_window(
-    rt: &(impl Abort + AllocGlobal),
+    rt: &(impl Abort + AllocGlobal + Wait),
     start: &str,
     record: &[u8],
     is_chosen: bool,
@@ -146,7 +202,7 @@ fn orders_records(rt: HostRuntime) -> Result<(), Fail> {
 
 // Checks that the words are refused before anything is read.
 fn check_words(
-    rt: &(impl Abort + AllocGlobal),
+    rt: &(impl Abort + AllocGlobal + Wait),
     words: &[&str],
     status: u8,
     text: &str,
@@ -322,18 +378,17 @@ fn refuses_records_and_faults(rt: HostRuntime) -> Result<(), Fail> {
 
 // Runs the usual query over the record into the sink, and compares the status and what the sink got.
 fn check_sink(
-    rt: &(impl Abort + AllocGlobal),
+    rt: &(impl Abort + AllocGlobal + Wait),
     mut sink: MemorySink,
     record: &[u8],
     status: u8,
     output: &[u8],
 ) -> Result<(), Fail> {
     let alloc = rt.alloc();
-    let words = owned_words(alloc, &USUAL)?;
     let mut source = MemorySource::new(pieces(alloc, record)?, Many::new(alloc));
     let mut errors = MemorySink::new(alloc, Many::new(alloc));
     let disk = empty_disk(alloc)?;
-    let ended = run(rt, alloc, &words, &mut source, &mut sink, &mut errors, disk);
+    let ended = run_over(rt, &USUAL, &mut source, &mut sink, &mut errors, disk)?;
     assert_eq!(rt; ended.status, status);
     assert_eq!(rt; sink.told().ok_or("lost")?, output);
     Ok(())
@@ -353,22 +408,13 @@ fn writes_a_first_part(rt: HostRuntime) -> Result<(), Fail> {
 #[test]
 fn runs_from_a_reader_to_a_writer(rt: HostRuntime) -> Result<(), Fail> {
     let alloc = rt.alloc();
-    let words = owned_words(alloc, &USUAL)?;
     let record = anmo_record();
     let mut output: Vec<u8> = Vec::new(alloc);
     let mut source = StdSource::new(record.as_slice());
     let mut sink = StdSink::telling(&mut output);
     let mut errors = MemorySink::new(alloc, Many::new(alloc));
     let disk = empty_disk(alloc)?;
-    let ended = run(
-        &rt,
-        alloc,
-        &words,
-        &mut source,
-        &mut sink,
-        &mut errors,
-        disk,
-    );
+    let ended = run_over(&rt, &USUAL, &mut source, &mut sink, &mut errors, disk)?;
     assert_eq!(rt; ended.status, 0);
     drop(sink);
     assert_eq!(rt; output.as_slice(), record.as_slice());

@@ -1,12 +1,11 @@
 //! Commands, and what they leave.
 use super::data::{anmo_record, three_hertz_record};
 use super::{
-    NOW, add_nothing, add_records, add_text, command, disk_of, epochs_archive, plain,
-    record_archive, replies, reply_at, signed, told, users_archive,
+    NOW, add_nothing, add_records, add_text, command, epochs_archive, opened, plain,
+    record_archive, replies, replies_of, signed, told, users_archive,
 };
 use archive_state::Limits;
 use exact_time::Bytes;
-use owned_desk::OwnedDesk;
 use std::test::Fail;
 
 const BATCH: &str = "/feed/1/batch?seq=1";
@@ -36,7 +35,7 @@ fn a_command_acts_once(rt: HostRuntime) -> Result<(), Fail> {
     add_text(&mut all, alloc, "409 Conflict", 3, gap)?;
     add_text(&mut all, alloc, "200 OK", 4, "accepted 4\n")?;
     add_records(&mut all, alloc, 4, &record)?;
-    let found = told(alloc, &users_archive(alloc)?, &requests)?;
+    let found = told(&rt, alloc, &users_archive(&rt, alloc)?, &requests)?;
     assert_eq!(rt; found.as_slice(), all.as_slice());
     Ok(())
 }
@@ -64,7 +63,7 @@ fn a_grant_shows_what_a_restriction_hides(rt: HostRuntime) -> Result<(), Fail> {
     add_text(&mut all, alloc, "200 OK", 4, extent)?;
     add_text(&mut all, alloc, "200 OK", 5, "accepted 5\n")?;
     add_nothing(&mut all, alloc, 5)?;
-    let found = told(alloc, &record_archive(alloc)?, &requests)?;
+    let found = told(&rt, alloc, &record_archive(&rt, alloc)?, &requests)?;
     assert_eq!(rt; found.as_slice(), all.as_slice());
     Ok(())
 }
@@ -105,7 +104,7 @@ fn a_command_is_refused_for_what_it_brings(rt: HostRuntime) -> Result<(), Fail> 
     add_text(&mut all, alloc, forbidden, 4, unknown)?;
     add_text(&mut all, alloc, bad, 4, "Error 400: query: Value 0\n")?;
     add_nothing(&mut all, alloc, 4)?;
-    let found = told(alloc, &epochs_archive(alloc)?, &requests)?;
+    let found = told(&rt, alloc, &epochs_archive(&rt, alloc)?, &requests)?;
     assert_eq!(rt; found.as_slice(), all.as_slice());
     Ok(())
 }
@@ -113,7 +112,7 @@ fn a_command_is_refused_for_what_it_brings(rt: HostRuntime) -> Result<(), Fail> 
 #[test]
 fn an_archive_is_full(rt: HostRuntime) -> Result<(), Fail> {
     let alloc = rt.alloc();
-    let file = record_archive(alloc)?;
+    let file = record_archive(&rt, alloc)?;
     let request = command(alloc, "feed1", "/feed/1/batch?seq=2", &three_hertz_record())?;
     let few_records = Limits {
         max_bytes: 67_108_864,
@@ -131,13 +130,13 @@ fn an_archive_is_full(rt: HostRuntime) -> Result<(), Fail> {
     let full = "507 Insufficient Storage";
     let mut all = Bytes::new(alloc);
     add_text(&mut all, alloc, full, 3, "Error 507: 2 records exceed 1\n")?;
-    let found = replies(alloc, &file, &requests, NOW, &few_records)?;
+    let found = replies(&rt, alloc, &file, &requests, NOW, &few_records)?;
     assert_eq!(rt; found.as_slice(), all.as_slice());
     // The founding body has 49 bytes, the users 96, and each record 512.
     let mut all = Bytes::new(alloc);
     let bytes = "Error 507: 1169 archive bytes exceed 600\n";
     add_text(&mut all, alloc, full, 3, bytes)?;
-    let found = replies(alloc, &file, &requests, NOW, &few_bytes)?;
+    let found = replies(&rt, alloc, &file, &requests, NOW, &few_bytes)?;
     assert_eq!(rt; found.as_slice(), all.as_slice());
     Ok(())
 }
@@ -146,22 +145,14 @@ fn an_archive_is_full(rt: HostRuntime) -> Result<(), Fail> {
 #[test]
 fn a_disk_stops_commands_alone(rt: HostRuntime) -> Result<(), Fail> {
     let alloc = rt.alloc();
-    let disk = disk_of(alloc, users_archive(alloc)?.as_slice(), &[9])?;
-    let mut desk = match OwnedDesk::start(alloc, disk) {
-        Ok(desk) => desk,
-        Err((_, fault)) => return Err(fault.into()),
-    };
+    let mut desk = opened(alloc, &users_archive(&rt, alloc)?, &[9])?;
     let requests = [
         command(alloc, "feed1", BATCH, &anmo_record())?,
         command(alloc, "feed1", BATCH, &anmo_record())?,
         plain(alloc, IU, "")?,
         command(alloc, "ada", BATCH, &anmo_record())?,
     ];
-    let mut found = Bytes::new(alloc);
-    for request in requests {
-        let reply = reply_at(alloc, &mut desk, &request, NOW, &Limits::FULL)?;
-        found.extend(reply.as_slice())?;
-    }
+    let found = replies_of(&rt, alloc, &mut desk, &requests, NOW, &Limits::FULL)?;
     let mut all = Bytes::new(alloc);
     let stopped = "Error 503: archive stopped\n";
     add_text(&mut all, alloc, "503 Service Unavailable", 2, stopped)?;

@@ -2,7 +2,7 @@
 use super::data::{anmo_record, hour_record, later_record, ten_seconds_record, three_hertz_record};
 use super::{
     NOW, add_nothing, add_records, add_text, command, epochs_archive, plain, posted,
-    record_archive, replies, told, users_archive, with_commands,
+    record_archive, replies, told, users_archive, with_command,
 };
 use archive_state::Limits;
 use exact_time::Bytes;
@@ -52,7 +52,7 @@ fn a_record_is_found_in_each_way(rt: HostRuntime) -> Result<(), Fail> {
     let front = "Error 400: bad X-Archive-Front\n";
     add_text(&mut all, alloc, bad, 3, front)?;
     add_text(&mut all, alloc, bad, 3, front)?;
-    let found = told(alloc, &record_archive(alloc)?, &requests)?;
+    let found = told(&rt, alloc, &record_archive(&rt, alloc)?, &requests)?;
     assert_eq!(rt; found.as_slice(), all.as_slice());
     Ok(())
 }
@@ -96,7 +96,7 @@ fn epochs_and_events_are_told_in_text(rt: HostRuntime) -> Result<(), Fail> {
     add_text(&mut all, alloc, "400 Bad Request", 4, scope)?;
     add_text(&mut all, alloc, ok, 4, "1.2.0\n")?;
     add_text(&mut all, alloc, ok, 4, "1.0.0\n")?;
-    let found = told(alloc, &epochs_archive(alloc)?, &requests)?;
+    let found = told(&rt, alloc, &epochs_archive(&rt, alloc)?, &requests)?;
     assert_eq!(rt; found.as_slice(), all.as_slice());
     Ok(())
 }
@@ -115,7 +115,7 @@ fn an_answer_is_too_large(rt: HostRuntime) -> Result<(), Fail> {
     let alloc = rt.alloc();
     let records = three_records(alloc)?;
     let batch = command(alloc, "feed1", "/feed/1/batch?seq=1", records.as_slice())?;
-    let file = with_commands(alloc, &users_archive(alloc)?, &[batch])?;
+    let file = with_command(&rt, alloc, &users_archive(&rt, alloc)?, &batch)?;
     let requests = [
         plain(
             alloc,
@@ -143,7 +143,7 @@ fn an_answer_is_too_large(rt: HostRuntime) -> Result<(), Fail> {
     let span =
         "#Network Station Location Channel Quality SampleRate Earliest Latest\nIU ANMO 00 BHZ D 20.0 2024-02-01T00:00:00.000000Z 2024-02-01T00:00:14.950000Z\n";
     add_text(&mut all, alloc, "200 OK", 3, span)?;
-    let found = replies(alloc, &file, &requests, NOW, &limits)?;
+    let found = replies(&rt, alloc, &file, &requests, NOW, &limits)?;
     assert_eq!(rt; found.as_slice(), all.as_slice());
     Ok(())
 }
@@ -151,8 +151,8 @@ fn an_answer_is_too_large(rt: HostRuntime) -> Result<(), Fail> {
 #[test]
 fn too_many_lines_are_asked_for(rt: HostRuntime) -> Result<(), Fail> {
     let alloc = rt.alloc();
-    let records = [command(alloc, "feed1", "/feed/1/batch?seq=2", &three_hertz_record())?];
-    let file = with_commands(alloc, &record_archive(alloc)?, &records)?;
+    let record = command(alloc, "feed1", "/feed/1/batch?seq=2", &three_hertz_record())?;
+    let file = with_command(&rt, alloc, &record_archive(&rt, alloc)?, &record)?;
     let requests = [plain(alloc, "GET /fdsnws/availability/1/query?mergegaps=0", "")?];
     let limits = Limits {
         max_bytes: 67_108_864,
@@ -163,7 +163,7 @@ fn too_many_lines_are_asked_for(rt: HostRuntime) -> Result<(), Fail> {
     let mut all = Bytes::new(alloc);
     let large = "Error 413: 2 lines exceed 1\n";
     add_text(&mut all, alloc, "413 Payload Too Large", 4, large)?;
-    let found = replies(alloc, &file, &requests, NOW, &limits)?;
+    let found = replies(&rt, alloc, &file, &requests, NOW, &limits)?;
     assert_eq!(rt; found.as_slice(), all.as_slice());
     Ok(())
 }
@@ -185,7 +185,7 @@ fn spans_are_merged_where_they_overlap(rt: HostRuntime) -> Result<(), Fail> {
     records.extend(&ten_seconds_record(0, 10))?;
     records.extend(&ten_seconds_record(1, 0))?;
     let batch = command(alloc, "feed1", "/feed/1/batch?seq=1", records.as_slice())?;
-    let file = with_commands(alloc, &users_archive(alloc)?, &[batch])?;
+    let file = with_command(&rt, alloc, &users_archive(&rt, alloc)?, &batch)?;
     let request = "GET /fdsnws/availability/1/query?format=request&merge=overlap";
     let requests = [
         plain(alloc, "GET /fdsnws/availability/1/query?merge=overlap", "")?,
@@ -196,7 +196,7 @@ fn spans_are_merged_where_they_overlap(rt: HostRuntime) -> Result<(), Fail> {
     add_text(&mut all, alloc, "200 OK", 3, MERGED)?;
     add_text(&mut all, alloc, "200 OK", 3, APART)?;
     add_text(&mut all, alloc, "200 OK", 3, ASKED_FOR)?;
-    let found = told(alloc, &file, &requests)?;
+    let found = told(&rt, alloc, &file, &requests)?;
     assert_eq!(rt; found.as_slice(), all.as_slice());
     Ok(())
 }

@@ -35,7 +35,7 @@ fn a_query_has_a_fault(rt: HostRuntime) -> Result<(), Fail> {
     add_text(&mut all, alloc, bad, 3, "Error 400: query: Order\n")?;
     add_text(&mut all, alloc, bad, 3, "Error 400: query: Value 1\n")?;
     add_text(&mut all, alloc, bad, 3, "Error 400: query: OutOfScope 1\n")?;
-    let found = told(alloc, &record_archive(alloc)?, &requests)?;
+    let found = told(&rt, alloc, &record_archive(&rt, alloc)?, &requests)?;
     assert_eq!(rt; found.as_slice(), all.as_slice());
     Ok(())
 }
@@ -59,7 +59,7 @@ fn a_path_or_a_method_is_none(rt: HostRuntime) -> Result<(), Fail> {
     let none = "Error 404: no such path\n";
     add_text(&mut all, alloc, "404 Not Found", 3, none)?;
     add_text(&mut all, alloc, "404 Not Found", 3, none)?;
-    let found = told(alloc, &record_archive(alloc)?, &requests)?;
+    let found = told(&rt, alloc, &record_archive(&rt, alloc)?, &requests)?;
     assert_eq!(rt; found.as_slice(), all.as_slice());
     Ok(())
 }
@@ -72,14 +72,14 @@ fn a_caller_is_asked_who_asks(rt: HostRuntime) -> Result<(), Fail> {
     let alloc = rt.alloc();
     let target = "/fdsnws/dataselect/1/queryauth?net=IU";
     let line = "GET /fdsnws/dataselect/1/queryauth?net=IU";
-    let file = record_archive(alloc)?;
+    let file = record_archive(&rt, alloc)?;
     let absent = plain(alloc, line, "")?;
     // The denial stands before the fault of the query.
     let faulty = plain(alloc, "GET /fdsnws/dataselect/1/queryauth?foo=1", "")?;
     // A response for another method is wrong.
     let other = credentials(alloc, "ada", "POST", target, NOW)?;
     let wrong = plain(alloc, line, other.as_str())?;
-    let found = told(alloc, &file, &[absent, faulty, wrong])?;
+    let found = told(&rt, alloc, &file, &[absent, faulty, wrong])?;
     let mut all = Bytes::new(alloc);
     all.extend(ABSENT.as_bytes())?;
     all.extend(ABSENT.as_bytes())?;
@@ -89,11 +89,11 @@ fn a_caller_is_asked_who_asks(rt: HostRuntime) -> Result<(), Fail> {
     let fields = credentials(alloc, "ada", "GET", target, NOW)?;
     let asked = plain(alloc, line, fields.as_str())?;
     let again = [asked.copy(alloc)?];
-    let found = replies(alloc, &file, &again, NOW + 300, &Limits::FULL)?;
+    let found = replies(&rt, alloc, &file, &again, NOW + 300, &Limits::FULL)?;
     let mut all = Bytes::new(alloc);
     add_records(&mut all, alloc, 3, &anmo_record())?;
     assert_eq!(rt; found.as_slice(), all.as_slice());
-    let found = replies(alloc, &file, &again, NOW + 301, &Limits::FULL)?;
+    let found = replies(&rt, alloc, &file, &again, NOW + 301, &Limits::FULL)?;
     assert!(rt;
         found
             .as_slice()

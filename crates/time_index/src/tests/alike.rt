@@ -192,23 +192,38 @@ fn answers_alike<V: Sight>(
     Ok(true)
 }
 
+// Whether both shelves take the ten rows alike in this order, and answer alike.
+fn are_alike(
+    alloc: Global,
+    step: usize,
+    simple: &Many<DataQuery>,
+    others: &Many<DataQuery>,
+) -> Result<bool, Fail>
+    requires { step < 12 }
+{
+    let mut indexed = IndexedShelf::new(alloc);
+    let mut plain = PlainShelf::new(alloc);
+    let answers = fill(alloc, &mut indexed, rows(alloc, step)?)?;
+    let wanted = fill(alloc, &mut plain, rows(alloc, step)?)?;
+    Ok(
+        answers.as_slice() == wanted.as_slice()
+            && indexed.len() == 10
+            && has_same_rows(&indexed, &plain)
+            && answers_alike(&indexed, &plain, &All, simple)?
+            && answers_alike(&indexed, &plain, &All, others)?
+            && answers_alike(&indexed, &plain, &Even, others)?,
+    )
+}
+
 #[test]
 fn answers_as_the_plain_shelf(rt: HostRuntime) -> Result<(), Fail> {
     let alloc = rt.alloc();
     let simple = simple_queries(alloc)?;
     let others = other_queries(alloc)?;
-    for step in [1, 5, 7, 11] {
-        let mut indexed = IndexedShelf::new(alloc);
-        let mut plain = PlainShelf::new(alloc);
-        let answers = fill(alloc, &mut indexed, rows(alloc, step)?)?;
-        let wanted = fill(alloc, &mut plain, rows(alloc, step)?)?;
-        assert_eq!(rt; answers.as_slice(), wanted.as_slice());
-        assert_eq!(rt; indexed.len(), 10);
-        assert!(rt; has_same_rows(&indexed, &plain));
-        assert!(rt; answers_alike(&indexed, &plain, &All, &simple)?);
-        assert!(rt; answers_alike(&indexed, &plain, &All, &others)?);
-        assert!(rt; answers_alike(&indexed, &plain, &Even, &others)?);
-    }
+    assert!(rt; are_alike(alloc, 1, &simple, &others)?);
+    assert!(rt; are_alike(alloc, 5, &simple, &others)?);
+    assert!(rt; are_alike(alloc, 7, &simple, &others)?);
+    assert!(rt; are_alike(alloc, 11, &simple, &others)?);
     Ok(())
 }
 

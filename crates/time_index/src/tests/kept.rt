@@ -77,6 +77,30 @@ fn code(text: &str) -> Result<Code, Fail> {
     Ok(Code::of(text.as_bytes()).ok_or("no code")?)
 }
 
+// Puts the row of a number into both shelves.
+fn put_both(
+    alloc: Global,
+    plain: &mut PlainShelf,
+    indexed: &mut IndexedShelf,
+    number: u32,
+) -> Result<(), Fail>
+    requires { number < 2000 }
+{
+    put(plain, row_of(alloc, number)?)?;
+    put(indexed, row_of(alloc, number)?)?;
+    Ok(())
+}
+
+fn have_same_spans(
+    plain: &PlainShelf,
+    indexed: &IndexedShelf,
+    name: &Nslc,
+) -> Result<bool, OutOfMemory> {
+    let spans = plain.merged_spans(name)?;
+    let others = indexed.merged_spans(name)?;
+    Ok(are_alike(spans.as_slice(), others.as_slice()))
+}
+
 // Rows of a channel in a shuffled order: after every hundredth the spans are those of the plain shelf.
 #[test]
 fn keeps_spans_in_a_shuffled_order(rt: HostRuntime) -> Result<(), Fail> {
@@ -91,12 +115,9 @@ fn keeps_spans_in_a_shuffled_order(rt: HostRuntime) -> Result<(), Fail> {
     let mut indexed = IndexedShelf::new(alloc);
     for turn in 0..ROWS {
         let number = turn * 1_201 % ROWS;
-        put(&mut plain, row_of(alloc, number)?)?;
-        put(&mut indexed, row_of(alloc, number)?)?;
+        put_both(alloc, &mut plain, &mut indexed, number)?;
         if turn % 100 == 99 {
-            let spans = plain.merged_spans(&bhz)?;
-            let others = indexed.merged_spans(&bhz)?;
-            assert!(rt; are_alike(spans.as_slice(), others.as_slice()));
+            assert!(rt; have_same_spans(&plain, &indexed, &bhz)?);
         }
     }
     assert_eq!(rt; indexed.len(), 2_000);

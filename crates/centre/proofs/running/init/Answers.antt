@@ -1,8 +1,8 @@
-use Rattle.std.proofs.Common.{Err, refl, sym, subst}
+use Rattle.std.proofs.Common.{Err, None, refl, sym, subst}
 use Rattle.archive_state.specs.Lawful.{founding_entry}
 use Rattle.archive_log.specs.declared.fault.FoundFault.TheVariants as found
 use Rattle.centre.specs.declared.ending.Stop.{Stop}
-use Rattle.centre.specs.Arguments.{init_words_at}
+use Rattle.command_words.specs.Arguments.{init_words_at}
 use Rattle.centre.specs.Given.{world}
 use Rattle.centre.specs.Table.{InitRow}
 use Rattle.centre.proofs.Rows.{init_row, refused_as, same_fault}
@@ -12,11 +12,11 @@ pub returns-in-Err : goal.returns-in-Err
 returns-in-Err g c =
     let view = g.D.Disk.view in
     let w = init_words_at c.args.arguments.now in
-    let before = world (g.S.Stream.view c.args.source.now) (g.K.Stream.view c.args.sink.now) c.args.disk in
-    let after = world (g.S.Stream.view c.args.source.now) (g.K.Stream.view c.args.sink.now) c.in-Err.disk in
+    let before = world (g.S.Stream.view c.args.source.now) (g.K.Stream.view c.args.sink.now) c.args.disk (g.C.Clock.given c.args.clock.now) None in
+    let after = world (g.S.Stream.view c.args.source.now) (g.K.Stream.view c.args.sink.now) c.in-Err.disk (g.C.Clock.given c.args.clock.now) None in
     record {
       row = subst (λ (s : Stop). InitRow view w before after (Err s)) (sym c.stop_for_founding.ensures) (init_row view w before after c.in-Err.fault (record {
-        streams = refl;
+        others = refl;
         disk = refused_as (founding_entry w.operator w.ha1) (view c.args.disk) (view c.in-Err.disk) c.in-Err.fault c.in-Err.ensures.disk;
         memory = λ is. c.in-Err.ensures.memory (same_fault c.in-Err.fault found.OutOfMemory _ refl is);
       }));

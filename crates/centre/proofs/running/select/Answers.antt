@@ -1,5 +1,5 @@
 use Rattle.std.proofs.Common.{refl}
-use Rattle.centre.specs.Arguments.{words_at}
+use Rattle.command_words.specs.Arguments.{words_at}
 use Rattle.centre.proofs.Rows.{refused_row, selected_row, cut_row}
 use Rattle.centre.proofs.running.select.Goals as goal
 

@@ -28,3 +28,13 @@ pub returns-in-NotEmpty-clause-text : goal.returns-in-NotEmpty-clause-text
 returns-in-NotEmpty-clause-text g c =
     let P : Refusal → Type 0 = λ refusal. Tells (g.E.Stream.view c.args.errors.now) (g.E.Stream.view c.tell-in-NotEmpty.new.errors) (text_of_refusal refusal) in
     subst P (sym c.in-NotEmpty.is) c.tell-in-NotEmpty.ensures
+
+pub returns-in-NotAJournal-clause-text : goal.returns-in-NotAJournal-clause-text
+returns-in-NotAJournal-clause-text g c =
+    let P : Refusal → Type 0 = λ refusal. Tells (g.E.Stream.view c.args.errors.now) (g.E.Stream.view c.tell-in-NotAJournal.new.errors) (text_of_refusal refusal) in
+    subst P (sym c.in-NotAJournal.is) c.tell-in-NotAJournal.ensures
+
+pub returns-in-RequestCut-clause-text : goal.returns-in-RequestCut-clause-text
+returns-in-RequestCut-clause-text g c =
+    let P : Refusal → Type 0 = λ refusal. Tells (g.E.Stream.view c.args.errors.now) (g.E.Stream.view c.tell-in-RequestCut.new.errors) (text_of_refusal refusal) in
+    subst P (sym c.in-RequestCut.is) c.tell-in-RequestCut.ensures

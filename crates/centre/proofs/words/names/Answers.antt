@@ -2,7 +2,7 @@ use Rattle.std.proofs.Common.{[], ◌∷◌, ◌++◌, refl}
 use Rattle.std.proofs.lemmas.Result.{err_from_is_err_and}
 use Rattle.centre.specs.Words.{time_words, option_words}
 use Rattle.centre.specs.declared.ending.Word.TheVariants.{Network, Station, Location, Channel}
-use Rattle.centre.specs.Arguments.{words_at}
+use Rattle.command_words.specs.Arguments.{words_at}
 use Rattle.centre.proofs.SelectWords.{first_word}
 use Rattle.centre.proofs.words.names.Goals as goal
 

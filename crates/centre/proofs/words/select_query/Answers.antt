@@ -1,6 +1,6 @@
 use Rattle.std.proofs.Common.{refl, arith}
 use Rattle.std.proofs.lemmas.Int.{ints}
-use Rattle.centre.specs.Arguments.{words_at}
+use Rattle.command_words.specs.Arguments.{words_at}
 use Rattle.centre.proofs.OneQuery.{all_read}
 use Rattle.centre.proofs.words.select_query.Goals as goal
 

@@ -1,6 +1,6 @@
 use Rattle.std.proofs.Common.{[], ◌∷◌, ◌++◌, refl}
 use Rattle.centre.specs.declared.ending.Word.TheVariants.{Start, End}
-use Rattle.centre.specs.Arguments.{words_at}
+use Rattle.command_words.specs.Arguments.{words_at}
 use Rattle.centre.specs.Words.{code_words, option_words}
 use Rattle.centre.proofs.SelectWords.{first_refused, one_more}
 use Rattle.centre.proofs.words.times.Goals as goal

@@ -1,4 +1,4 @@
-use Rattle.std.proofs.Common.{rules, ◌≡◌, ◌∙◌, sym, ap, refl, ℕ, List, [], ◌∷◌, Option, None, Some, is_some, Bool, true, false, option_map, option_to_list}
+use Rattle.std.proofs.Common.{◌∙◌, sym, ap, [], ◌∷◌, option_map, option_to_list}
 use Rattle.centre_desk.proofs.Values.{passed_over, found_here, found_twice, all_seen, found_none, found_value}
 use Rattle.centre_desk.proofs.fields.only_value.Goals as goal
 use Rattle.centre_desk.proofs.fields.only_value.Goals.{then-is_named+else-is_some, else-is_named}

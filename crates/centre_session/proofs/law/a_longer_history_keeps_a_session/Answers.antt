@@ -1,4 +1,4 @@
-use Rattle.centre_session.proofs.Sessions.{extends, prefix_length}
+use Rattle.centre_session.proofs.Fronts.{extends, prefix_length}
 use Rattle.centre_session.proofs.law.a_longer_history_keeps_a_session.Goals as goal
 
 pub returns : goal.returns

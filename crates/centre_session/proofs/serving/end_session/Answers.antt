@@ -1,4 +1,4 @@
-use Rattle.std.proofs.Common.{refl, sym, ap, subst, Ok, Err}
+use Rattle.std.proofs.Common.{refl, sym, ap, subst}
 use Rattle.http_wire.specs.declared.ending.ReadEnd.{ReadEnd}
 use Rattle.centre_session.specs.Session.{scene}
 use Rattle.centre_session.specs.Steps.{EndRow, end_by}

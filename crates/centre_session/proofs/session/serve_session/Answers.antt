@@ -1,7 +1,6 @@
-use Rattle.std.proofs.Common.{◌≡◌, ◌∙◌, refl, sym, ap, subst, arith, inl, inr, ℕ, ◌+◌, ◌-◌, ◌<◌, ◌≤◌, List, [], ◌∷◌, length, length-append, ◌==◌, Bool, true, false, Ok, Err}
+use Rattle.std.proofs.Common.{◌≡◌, ◌∙◌, refl, sym, ap, subst, arith, inl, ℕ, ◌+◌, ◌≤◌, List, [], ◌∷◌, length, length-append, ◌==◌, Ok, Err}
 use Rattle.desk_words.specs.Setting.{setting}
-use Rattle.centre_session.specs.Session.{scene, SessionRow}
-use Rattle.centre_session.specs.declared.ending.SessionEnd.TheVariants.{Memory}
+use Rattle.centre_session.specs.Session.{scene}
 use Rattle.centre_session.proofs.Endings.{begins, ended, going, closed, broken, ran_out}
 use Rattle.centre_session.proofs.Bodies.{body_within, says_by, few_more}
 use Rattle.http_wire.specs.Fronts.{front_limit}

@@ -1,4 +1,4 @@
-use Rattle.std.proofs.Common.{ℕ, ◌-◌, ◌<◌, length}
+use Rattle.std.proofs.Common.{◌-◌, ◌<◌, length}
 use Rattle.desk_words.specs.Setting.{setting}
 use Rattle.centre_session.specs.Session.{scene}
 use Rattle.centre_session.proofs.Endings.{SoFar}

@@ -1,0 +1,98 @@
+-- The file and what was read determine one answer of `talk`.
+use Rattle.std.proofs.Common.{◌≡◌, ◌⊎◌, inl, inr, ℕ, List, [], Result, Ok, Err, refl, sym, ap, ◌∙◌}
+use Rattle.archive_entry.specs.declared.entry.Entry.{Entry}
+use Rattle.archive_log.specs.Opening.{IsStartFault}
+use Rattle.archive_log.specs.declared.fault.StartFault.{StartFault}
+use Rattle.archive_log.specs.declared.fault.StartFault.TheVariants as start
+use Rattle.archive_log.proofs.OneOpening.{one_opening}
+use Rattle.centre_session.specs.Items.{Ending, closing, over, cut}
+use Rattle.centre.specs.Talks.{IsServed, IsTalkAnswer}
+use Rattle.centre.specs.declared.ending.Refusal.{Refusal}
+use Rattle.centre.specs.declared.ending.Refusal.TheVariants.{UnknownCommand, Value, Order, Record, NoData, TooLarge, InputTooLong, NotEmpty, NotAJournal, Damaged, RequestCut}
+use Rattle.centre.proofs.OneEnding.{one_ending}
+
+one_end_of : (file input : List ℕ) (d e : Ending) → IsServed file input d → IsServed file input e → d ≡ e
+one_end_of file input d e p q = one_ending 0 input p.ends.items q.ends.items p.ends.interim q.ends.interim d e p.ends.all q.ends.all
+
+-- a file that opens has no fault
+not_both : (file input : List ℕ) (ending : Ending) (fault : StartFault) → IsServed file input ending → IsStartFault file fault → ⊥
+not_both file input ending fault p q =
+    let same : (let one : Result (List Entry) StartFault = Err fault in one) ≡ Ok p.history = (one_opening file (Ok p.history) p.opens).only (Err fault) q in
+    absurd cc
+
+one_fault : (file : List ℕ) (f g : StartFault) → IsStartFault file f → IsStartFault file g → f ≡ g
+one_fault file f g p q =
+    let same : (let one : Result (List Entry) StartFault = Err g in one) ≡ Err f = (one_opening file (Err f) p).only (Err g) q in
+    cc
+
+not_closed : (file input : List ℕ) → IsServed file input closing ⊎ IsServed file input over → IsServed file input cut → ⊥
+not_closed file input (inl p) q = let bad = one_end_of file input closing cut p q in absurd cc
+not_closed file input (inr p) q = let bad = one_end_of file input over cut p q in absurd cc
+
+-- how a file that is no archive is refused
+data Refuses (file : List ℕ) (answer : Result (List ℕ) Refusal) : Type 0 where
+  no_journal : IsStartFault file start.NotAJournal → answer ≡ Err NotAJournal → Refuses file answer
+  damaged : (at : ℕ) → IsStartFault file (start.Damaged at) → answer ≡ Err (Damaged at) → Refuses file answer
+
+data Answers (file input : List ℕ) (answer : Result (List ℕ) Refusal) : Type 0 where
+  served : IsServed file input closing ⊎ IsServed file input over → answer ≡ Ok [] → Answers file input answer
+  was_cut : IsServed file input cut → answer ≡ Err RequestCut → Answers file input answer
+  refuses : Refuses file answer → Answers file input answer
+
+answers : (file input : List ℕ) (answer : Result (List ℕ) Refusal) → IsTalkAnswer file input answer → Answers file input answer
+answers file input (Ok body) is = served is.1 (ap Ok is.0)
+answers file input (Err RequestCut) is = was_cut is refl
+answers file input (Err NotAJournal) is = refuses (no_journal is refl)
+answers file input (Err (Damaged at)) is = refuses (damaged at is refl)
+answers file input (Err UnknownCommand) is = absurd is
+answers file input (Err (Value word)) is = absurd is
+answers file input (Err Order) is = absurd is
+answers file input (Err (Record at fault)) is = absurd is
+answers file input (Err NoData) is = absurd is
+answers file input (Err (TooLarge bytes limit)) is = absurd is
+answers file input (Err InputTooLong) is = absurd is
+answers file input (Err NotEmpty) is = absurd is
+
+-- a file that opens isn't refused
+opens : (file input : List ℕ) (ending : Ending) (answer : Result (List ℕ) Refusal) → IsServed file input ending → Refuses file answer → ⊥
+opens file input ending answer p (no_journal q e) = not_both file input ending start.NotAJournal p q
+opens file input ending answer p (damaged at q e) = not_both file input ending (start.Damaged at) p q
+
+opens_closed : (file input : List ℕ) (answer : Result (List ℕ) Refusal) → IsServed file input closing ⊎ IsServed file input over → Refuses file answer → ⊥
+opens_closed file input answer (inl p) q = opens file input closing answer p q
+opens_closed file input answer (inr p) q = opens file input over answer p q
+
+one_refusal : (file : List ℕ) (a b : Result (List ℕ) Refusal) → Refuses file a → Refuses file b → a ≡ b
+one_refusal file a b (no_journal p e) (no_journal q f) = e ∙ sym f
+one_refusal file a b (no_journal p e) (damaged at q f) = let bad = one_fault file start.NotAJournal (start.Damaged at) p q in absurd cc
+one_refusal file a b (damaged at p e) (no_journal q f) = let bad = one_fault file (start.Damaged at) start.NotAJournal p q in absurd cc
+one_refusal file a b (damaged at p e) (damaged to q f) =
+    let faults = one_fault file (start.Damaged at) (start.Damaged to) p q in
+    let same : at ≡ to = cc in
+    e ∙ ap (λ n. Err (Damaged n)) same ∙ sym f
+
+one_of : (file input : List ℕ) (a b : Result (List ℕ) Refusal) → Answers file input a → Answers file input b → a ≡ b
+one_of file input a b (served p e) (served q f) = e ∙ sym f
+one_of file input a b (served p e) (was_cut q f) = absurd (not_closed file input p q)
+one_of file input a b (served p e) (refuses q) = absurd (opens_closed file input b p q)
+one_of file input a b (was_cut p e) (served q f) = absurd (not_closed file input q p)
+one_of file input a b (was_cut p e) (was_cut q f) = e ∙ sym f
+one_of file input a b (was_cut p e) (refuses q) = absurd (opens file input cut b p q)
+one_of file input a b (refuses p) (served q f) = absurd (opens_closed file input a q p)
+one_of file input a b (refuses p) (was_cut q f) = absurd (opens file input cut a q p)
+one_of file input a b (refuses p) (refuses q) = one_refusal file a b p q
+
+pub one_talk : (file input : List ℕ) (a b : Result (List ℕ) Refusal) → IsTalkAnswer file input a → IsTalkAnswer file input b → a ≡ b
+one_talk file input a b p q = one_of file input a b (answers file input a p) (answers file input b q)
+
+-- and where the file opens or has a fault, and what was read ends, there is one
+pub some_talk : (file input : List ℕ) (ending : Ending) → IsServed file input ending → (answer : Result (List ℕ) Refusal) × IsTalkAnswer file input answer
+some_talk file input closing p = (Ok [], (refl, inl p))
+some_talk file input over p = (Ok [], (refl, inr p))
+some_talk file input cut p = (Err RequestCut, p)
+
+pub some_refusal : (file input : List ℕ) (fault : StartFault) → IsStartFault file fault → (answer : Result (List ℕ) Refusal) × IsTalkAnswer file input answer
+some_refusal file input start.NotAJournal p = (Err NotAJournal, p)
+some_refusal file input (start.Damaged at) p = (Err (Damaged at), p)
+some_refusal file input start.DiskFault p = absurd p
+some_refusal file input start.OutOfMemory p = absurd p

@@ -1,0 +1,4 @@
+pub mod Link
+pub mod Served
+pub mod Stops
+pub mod Talk

@@ -1,0 +1,60 @@
+-- Worked examples of whole command lines.
+use Rattle.std.proofs.Common.{◌≡◌, refl, List, [], ◌∷◌, Some, None, codes}
+use Rattle.clap.proofs.OnLiterals.{clap_on_literals}
+use Rattle.command_words.specs.Commands.{InitWords, TalkWords, init, talk, show, command_of}
+use Rattle.command_words.specs.Layouts.{app_for}
+use Rattle.command_words.specs.declared.name.CommandName.TheVariants.{Select, Init, Talk}
+use Rattle.command_words.specs.declared.name.Shown.TheVariants.{Help, Version, HelpOf}
+
+abbrev op_words : InitWords
+op_words = record { journal = codes "a.journal"; operator = codes "op"; ha1 = codes "939e7578ed9e3c518a452acee763bce9" }
+
+-- `init` with its three options, in any order, as two words or as one
+init_asked : command_of (codes "init" ∷ codes "--ha1=939e7578ed9e3c518a452acee763bce9" ∷ codes "--operator" ∷ codes "op" ∷ codes "--journal" ∷ codes "a.journal" ∷ []) ≡ Some (init op_words)
+unfolding clap_on_literals app_for
+init_asked = refl
+
+-- an HA1 in upper case makes no command, nor does an option that is left out, or one that is given twice
+upper_case : command_of (codes "init" ∷ codes "--journal" ∷ codes "a.journal" ∷ codes "--operator" ∷ codes "op" ∷ codes "--ha1" ∷ codes "939E7578ED9E3C518A452ACEE763BCE9" ∷ []) ≡ None
+unfolding clap_on_literals app_for
+upper_case = refl
+
+no_operator : command_of (codes "init" ∷ codes "--journal" ∷ codes "a.journal" ∷ codes "--ha1" ∷ codes "939e7578ed9e3c518a452acee763bce9" ∷ []) ≡ None
+unfolding clap_on_literals app_for
+no_operator = refl
+
+twice : command_of (codes "talk" ∷ codes "--journal=a" ∷ codes "--journal=a" ∷ []) ≡ None
+unfolding clap_on_literals app_for
+twice = refl
+
+abbrev talk_words : TalkWords
+talk_words = record {
+  journal = codes "a.journal";
+  limits = record { max_bytes = 67_108_864; max_lines = 1; max_records = 2_097_152; max_archive = 536_870_912 };
+}
+
+-- `talk` with one limit; a limit of 0 makes no command
+talk_asked : command_of (codes "talk" ∷ codes "--max-lines" ∷ codes "1" ∷ codes "--journal=a.journal" ∷ []) ≡ Some (talk talk_words)
+unfolding clap_on_literals app_for
+talk_asked = refl
+
+no_limit : command_of (codes "talk" ∷ codes "--max-lines" ∷ codes "0" ∷ codes "--journal=a.journal" ∷ []) ≡ None
+unfolding clap_on_literals app_for
+no_limit = refl
+
+-- two words are no command of `select`, and help is one of each
+two_words : command_of (codes "select" ∷ codes "IU" ∷ []) ≡ None
+unfolding clap_on_literals app_for
+two_words = refl
+
+helped : command_of (codes "talk" ∷ codes "--help" ∷ []) ≡ Some (show (HelpOf Talk))
+helped = refl
+
+alone : command_of (codes "--help" ∷ []) ≡ Some (show Help)
+alone = refl
+
+versioned : command_of (codes "--version" ∷ []) ≡ Some (show Version)
+versioned = refl
+
+no_words : command_of [] ≡ None
+no_words = refl

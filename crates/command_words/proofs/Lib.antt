@@ -1,0 +1,5 @@
+pub mod Examples
+pub mod Folds
+pub mod Plain
+pub mod Refused
+pub mod WrittenOut

@@ -1,0 +1,17 @@
+-- The commands of the program, written out.
+use Rattle.std.proofs.Common.{◌≡◌, refl, [], ◌∷◌, codes}
+use Rattle.command_words.specs.Layouts.{app_with, app_for}
+use Rattle.command_words.specs.declared.name.CommandName.TheVariants.{Select, Init, Talk}
+
+pub select_is : app_with (codes "select") (codes "NET" ∷ codes "STA" ∷ codes "LOC" ∷ codes "CHA" ∷ codes "START" ∷ codes "END" ∷ []) []
+    (codes "quality" ∷ codes "minimum" ∷ codes "longest" ∷ codes "max-bytes" ∷ []) ≡ app_for Select
+unfolding app_for
+select_is = refl
+
+pub init_is : app_with (codes "init") [] (codes "journal" ∷ codes "operator" ∷ codes "ha1" ∷ []) [] ≡ app_for Init
+unfolding app_for
+init_is = refl
+
+pub talk_is : app_with (codes "talk") [] (codes "journal" ∷ []) (codes "max-bytes" ∷ codes "max-lines" ∷ codes "max-records" ∷ codes "max-archive" ∷ []) ≡ app_for Talk
+unfolding app_for
+talk_is = refl

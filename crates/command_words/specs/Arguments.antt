@@ -1,0 +1,42 @@
+-- The texts of the words that the code lends.
+use Rattle.archive_state.specs.declared.limits.Limits.{Limits}
+use Rattle.command_words.specs.Commands.{SelectWords, InitWords, LimitWords, TalkWords, Command, select, init, talk, show}
+use Rattle.command_words.specs.declared.arguments.CommandWords.{CommandWords}
+use Rattle.command_words.specs.declared.arguments.CommandWords.TheVariants.{Select, Init, Talk, Show}
+use Rattle.command_words.specs.declared.arguments.InitArguments.{InitArguments}
+use Rattle.command_words.specs.declared.arguments.SelectArguments.{SelectArguments}
+use Rattle.command_words.specs.declared.arguments.TalkArguments.{TalkArguments}
+
+abbrev pub words_at : SelectArguments → SelectWords
+words_at a = record {
+  network = a.network.now;
+  station = a.station.now;
+  location = a.location.now;
+  channel = a.channel.now;
+  start = a.start.now;
+  end = a.end.now;
+  quality = a.quality.now;
+  minimum = a.minimum.now;
+  longest = a.longest.now;
+  limit = a.limit;
+}
+
+abbrev pub init_words_at : InitArguments → InitWords
+init_words_at a = record { journal = a.journal.now; operator = a.operator.now; ha1 = a.ha1.now }
+
+abbrev pub limits_at : Limits → LimitWords
+limits_at limits = record {
+  max_bytes = limits.max_bytes;
+  max_lines = limits.max_lines;
+  max_records = limits.max_records;
+  max_archive = limits.max_archive;
+}
+
+abbrev pub talk_words_at : TalkArguments → TalkWords
+talk_words_at a = record { journal = a.journal.now; limits = limits_at a.limits }
+
+abbrev pub command_at : CommandWords → Command
+command_at (Select arguments) = select (words_at arguments)
+command_at (Init arguments) = init (init_words_at arguments)
+command_at (Talk arguments) = talk (talk_words_at arguments)
+command_at (Show shown) = show shown
