@@ -1,5 +1,5 @@
 -- What every session says.
-use Rattle.std.proofs.Common.{sym, ⊎_elim, List, [], ◌∷◌}
+use Rattle.std.proofs.Common.{sym, inl, inr, List, [], ◌∷◌}
 use Rattle.std.proofs.lemmas.List.{append-nil}
 use Rattle.desk_words.specs.Setting.{Setting}
 use Rattle.http_wire.specs.declared.turn.Turn.{Turn}
@@ -8,7 +8,7 @@ use Rattle.centre_session.specs.Session.{Scene, Ended, SessionRow, SessionSays}
 use Rattle.centre_session.specs.declared.ending.SessionEnd.{SessionEnd}
 use Rattle.centre_session.specs.declared.ending.SessionEnd.TheVariants.{Closed, Cut, LinkFault, Memory}
 
-ended_says : (x z : Scene) (s : Setting) (turns : List Turn) (ending : Ending) → Ended x z s turns ending → SessionSays x z s turns
+abbrev pub ended_says : (x z : Scene) (s : Setting) (turns : List Turn) (ending : Ending) → Ended x z s turns ending → SessionSays x z s turns
 ended_says x z s turns ending e = record {
   items = e.items;
   replies = e.replies;
@@ -22,9 +22,9 @@ ended_says x z s turns ending e = record {
 }
 
 -- whatever its end
-pub session_says : (x z : Scene) (s : Setting) (turns : List Turn) (ending : SessionEnd) → SessionRow x z s turns ending → SessionSays x z s turns
-session_says x z s turns Closed row =
-    ⊎_elim (λ (e : Ended x z s turns closing). ended_says x z s turns closing e) (λ (e : Ended x z s turns over). ended_says x z s turns over e) row
+abbrev pub session_says : (x z : Scene) (s : Setting) (turns : List Turn) (ending : SessionEnd) → SessionRow x z s turns ending → SessionSays x z s turns
+session_says x z s turns Closed (inl row) = ended_says x z s turns closing row
+session_says x z s turns Closed (inr row) = ended_says x z s turns over row
 session_says x z s turns Cut row = ended_says x z s turns cut row
 session_says x z s turns LinkFault row = record {
   items = row.items;

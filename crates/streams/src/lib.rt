@@ -10,8 +10,8 @@
 //! above.
 //!
 //! [`MemorySource`], [`MemorySink`] and [`MemoryLink`] are exact: which call fails is said by its number
-//! (`specs/Calls.antt`), which bytes of which piece it gives (`specs/Pieces.antt`) and how much of a piece
-//! it takes (`specs/Memory.antt`). Where memory doesn't suffice to keep what is written, they no longer tell
+//! (`specs/Calls.antt`; a [`Tally`] counts them, also for ports), which bytes of which piece it gives
+//! (`specs/Pieces.antt`) and how much of a piece it takes (`specs/Memory.antt`). Where memory doesn't suffice to keep what is written, they no longer tell
 //! it (`specs/Kept.antt`), and tell what is left as before.
 #![tactic(auto)]
 
@@ -32,4 +32,5 @@ pub use link::MemoryLink;
 pub use sink::MemorySink;
 pub use source::MemorySource;
 pub use stream::{Link, Sink, Source, Stream};
+pub use tally::Tally;
 pub use transfer::put_all;

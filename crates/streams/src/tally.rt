@@ -16,7 +16,7 @@ impl Tally {
     ghost use Rattle.streams.specs.Calls.{calls_of, fails_of, faults_of, fresh, one_more, is_to_fail};
 
     /// No call yet, of which those with these numbers fail.
-    pub(crate) fn new(fails: Many<u64>) -> Self
+    pub fn new(fails: Many<u64>) -> Self
         ensures { result ≡ fresh fails }
     {
         Tally {
@@ -27,14 +27,14 @@ impl Tally {
     }
 
     /// How many calls failed.
-    pub(crate) fn faults(&self) -> u64
+    pub fn faults(&self) -> u64
         ensures { result ≡ faults_of self.now }
     {
         self.faults
     }
 
     /// Counts a call, and says whether it is one of those that fail.
-    pub(crate) fn is_failing(&mut self) -> bool
+    pub fn is_failing(&mut self) -> bool
         ensures numbered { result ≡ is_to_fail self.old }
         ensures calls { calls_of self.new ≡ one_more (calls_of self.old) }
         ensures fails { fails_of self.new ≡ fails_of self.old }
@@ -46,7 +46,7 @@ impl Tally {
     }
 
     /// Fails, and counts it.
-    pub(crate) fn refuse(&mut self) -> Failed
+    pub fn refuse(&mut self) -> Failed
         ensures faults { faults_of self.new ≡ one_more (faults_of self.old) }
         ensures rose { Rose (faults_of self.old) (faults_of self.new) }
         ensures later { faults_of self.old ≤ faults_of self.new }
