@@ -103,6 +103,8 @@ impl<D: Disk, J: Naming, T: Carries<J> + Drop, L: Ledger, S: Ledger> Committer<D
         ensures short { IsErrOf result SubmitFault.OutOfMemory
             → ((self.new.latest ≡ self.old.latest) × (shares.new ≡ shares.old)) ⊎ ((self.new.latest ≡ self.old.latest ++ entry ∷ []) × (shares.new ≡ with_entry shares.old)) }
         ensures disk { Commits D.view self.old.archive self.new.archive self.old.latest entry (IsErrOf result SubmitFault.Stopped) }
+        // After a commit that failed it is no other answer.
+        ensures halted { self.old.archive.stopped ≡ true → IsErrOf result SubmitFault.Stopped × (self.new.archive ≡ self.old.archive) }
     {
         let _count = self.count();
         if self.is_stopped() {

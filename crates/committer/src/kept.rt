@@ -52,7 +52,9 @@ pub struct Committer<D: Disk, J: Naming, T: Carries<J> + Drop, L: Ledger, S: Led
     // What every run knows of the disk at the opening.
     pub ghost told_is: { (D.view archive.disk).tells ≡ J.told },
     pub ghost faults_are: { archive.faults ≡ J.faults },
+    // A commit was stopped exactly where some caller was told so.
     pub ghost never: { archive.stopped ≡ false → stops.total ≡ 0 },
+    pub ghost ever: { archive.stopped ≡ true → 0 < stops.total },
     // The history goes on from the opening one, by as many entries as were made.
     pub ghost began: { take (length J.opening) latest ≡ J.opening },
     pub ghost made_are: { length latest ≡ length J.opening + made.total },

@@ -70,6 +70,9 @@ impl<D: Disk, J: Naming, T: Carries<J> + Drop, L: Ledger, S: Ledger> Committer<D
             posted.now moment (setting secret.now limits.now) result }
         ensures disk { (e : Entry) → IsTheOne (posted_entry self.old.latest posted.now moment (setting secret.now limits.now)) e
             → Commits D.view self.old.archive self.new.archive self.old.latest e (IsErrOf result SubmitFault.Stopped) }
+        // After a commit that failed nothing is added, whatever the answer.
+        ensures halted { self.old.archive.stopped ≡ true
+            → (self.new.archive ≡ self.old.archive) × (self.new.latest ≡ self.old.latest) × (shares.new.made ≡ shares.old.made) }
     {
         let judged = self.count();
         self.flush(rt)?;

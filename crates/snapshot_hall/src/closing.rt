@@ -1,11 +1,16 @@
 //! The end of a hall: all places come back.
-ghost use Rattle.std.specs.Prelude.{◌≡◌, length, sum_by};
+ghost use Rattle.std.specs.Prelude.{◌≡◌, ◌^◌, ◌<◌, false, None, length, sum_by};
 ghost use Rattle.std.specs.List.{AllByRecursion};
 ghost use mathlib.Core.List.{IsPrefix};
+ghost use Rattle.disk_model.specs.View.{WhereTold};
+ghost use Rattle.archive_log.specs.Archive.{Stands};
+ghost use Rattle.desk_words.specs.Stand.{nothing};
+ghost use Rattle.owned_desk.specs.Owned.{LeavesLeft, left_of};
 ghost use Rattle.snapshot_hall.specs.Ends.{Closed};
 
 use crate::hall::Hall;
 use archive_history::{Front, Naming};
+use archive_log::Archive;
 use committer::Committer;
 use disk_model::Disk;
 use std::mem::ManuallyDrop;
@@ -51,9 +56,23 @@ fn gather<J: Naming, T: Carries<J> + Drop, L: Ledger, S: Ledger, R: Wait>(
     (made, halts)
 }
 
+// The disk of an archive, and what a crash leaves of it.
+#[tactic(auto, using(owned_desk::proofs::Leaving::leaves_left))]
+fn let_go<D: Disk>(archive: Archive<D>) -> D
+    ensures disk { result ≡ archive.disk }
+    ensures stands { WhereTold (D.view archive.disk) (Stands D.view archive) }
+    ensures left { WhereTold (D.view archive.disk) (LeavesLeft (D.view result).may_leave archive.history (left_of None archive.hand)) }
+    ensures calm { archive.stopped ≡ false → left_of None archive.hand ≡ nothing }
+    ensures few { archive.count < 2 ^ 60 }
+{
+    let _count = archive.count();
+    archive.close()
+}
+
 impl<D: Disk, J: Naming, T: Carries<J> + Drop, L: Ledger, S: Ledger> Hall<D, J, T, L, S> {
     /// Gives the disk back, once all places are there, in any order. Its history begins with what each place has seen,
-    /// and has as many entries beyond the opening ones as the places made. It publishes nothing and takes no memory.
+    /// and has as many entries beyond the opening ones as the places made; where none of them was stopped, every image is a
+    /// journal of it. It publishes nothing and takes no memory.
     pub fn close<R: Wait>(self, rt: &R, places: Vec<Place<J, T, L, S>>) -> D
         requires { (length places.items ≡ L.parts) × (length places.items ≡ S.parts) }
         ensures told { (D.view result).tells ≡ J.told }
@@ -78,6 +97,6 @@ impl<D: Disk, J: Naming, T: Carries<J> + Drop, L: Ledger, S: Ledger> Hall<D, J, 
         let (mut made, mut halts) = gather(rt, &latest, places, made, halts);
         entries.audit(&mut made);
         stopped.audit(&mut halts);
-        archive.close()
+        let_go(archive)
     }
 }

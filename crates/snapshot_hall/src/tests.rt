@@ -23,6 +23,9 @@ use std::test::Fail;
 use std::thread::{Threads, join};
 use two_copies::{Carries, HeldState, Place};
 
+mod replies;
+mod stops;
+
 const HA1: &str = "939e7578ed9e3c518a452acee763bce9";
 
 const USERS: &str =
@@ -195,7 +198,7 @@ fn one_submits<R: Wait + Abort, K: Desk>(
     Ok(())
 }
 
-// A disk stops what one submits, and then what the other does; both are answered as before.
+// A disk stops what one submits, and then what the other does; both are answered as before, and so is a repeat.
 fn both_are_stopped<R: Wait + Abort, K: Desk>(
     rt: &R,
     alloc: Global,
@@ -210,6 +213,9 @@ fn both_are_stopped<R: Wait + Abort, K: Desk>(
         (front_asked(alloc, one)?, front_asked(alloc, two)?),
         (3, 3)
     );
+    let earlier = batch(alloc, "feed1", 1, &anmo_record())?;
+    let told = post(rt, alloc, two, &earlier)??;
+    assert_eq!(rt; (told.verdict, told.front), (Verdict::Repeat(3), 3));
     assert_eq!(rt; (one.stops(), two.stops()), (1, 1));
     Ok(())
 }
@@ -218,6 +224,7 @@ fn both_are_stopped<R: Wait + Abort, K: Desk>(
 #[derive(Clone, Copy)]
 enum Course {
     OneSubmits,
+    TheOtherReplies,
     BothAreStopped,
 }
 
@@ -231,6 +238,7 @@ fn talk_between<'a, J: Naming, T: Carries<J> + Drop, L: Ledger, S: Ledger, R: Wa
 ) -> Result<(), Fail> {
     match course {
         Course::OneSubmits => one_submits(rt, alloc, one, two),
+        Course::TheOtherReplies => replies::the_other_replies(rt, alloc, one, two),
         Course::BothAreStopped => both_are_stopped(rt, alloc, one, two),
     }
 }
@@ -262,7 +270,7 @@ fn talk_at<J: Naming, T: Carries<J> + Drop, L: Ledger, S: Ledger, R: Wait + Abor
     talked
 }
 
-// The file that a crash would leave, once two desks have talked and the hall was closed.
+// The disk, once two desks have talked and the hall was closed.
 fn talk<J: Naming, L: Ledger, S: Ledger, R: Wait + Abort>(
     rt: &R,
     alloc: Global,
@@ -273,7 +281,7 @@ fn talk<J: Naming, L: Ledger, S: Ledger, R: Wait + Abort>(
     made: Blank,
     halts: Blank,
     course: Course,
-) -> Result<Bytes, Fail>
+) -> Result<MemoryDisk, Fail>
     requires started { IsStarted memory_view archive entries.now admit }
     requires book { opened ≡ J.book }
     requires opening { J.opening ≡ entries.now }
@@ -291,18 +299,17 @@ fn talk<J: Naming, L: Ledger, S: Ledger, R: Wait + Abort>(
     let talked = talk_at(rt, alloc, &hall, &mut places, course);
     let disk = hall.close(rt, places);
     talked?;
-    Ok(disk.image(Choice::Old)?)
+    Ok(disk)
 }
 
-// The file that a crash would leave of an archive with this file, whose disk fails at these calls, once two desks of a hall
-// over it have talked.
+// The disk of an archive with this file, which fails at these calls, once two desks of a hall over it have talked.
 fn left_by(
     rt: &(impl Wait + Abort),
     alloc: Global,
     file: &[u8],
     fails: &[u64],
     course: Course,
-) -> Result<Bytes, Fail> {
+) -> Result<MemoryDisk, Fail> {
     let (archive, entries, admit) = match Archive::start(alloc, disk_of(alloc, file, fails)?) {
         Ok(started) => started,
         Err((_, fault)) => return Err(fault.into()),
@@ -320,22 +327,26 @@ fn left_by(
     )
 }
 
+// How many entries a crash would leave, at that image.
+fn entries_left(alloc: Global, disk: &MemoryDisk, choice: Choice) -> Result<u64, Fail> {
+    Ok(desk_of(alloc, disk.image(choice)?.as_slice())?.front())
+}
+
 #[test]
 fn the_other_desk_sees_what_one_submits(rt: HostRuntime) -> Result<(), Fail> {
     let alloc = rt.alloc();
     let file = archive_file(&rt, alloc)?;
-    let left = left_by(&rt, alloc, file.as_slice(), &[], Course::OneSubmits)?;
-    assert_eq!(rt; desk_of(alloc, left.as_slice())?.front(), 4);
+    let disk = left_by(&rt, alloc, file.as_slice(), &[], Course::OneSubmits)?;
+    assert_eq!(rt; entries_left(alloc, &disk, Choice::Old)?, 4);
     Ok(())
 }
 
-// A start of three entries makes ten calls, so that the twelfth is the second one of a commit.
 #[test]
-fn a_stop_is_told_to_both(rt: HostRuntime) -> Result<(), Fail> {
+fn the_other_desk_replies_over_what_was_asked_for(rt: HostRuntime) -> Result<(), Fail> {
     let alloc = rt.alloc();
     let file = archive_file(&rt, alloc)?;
-    let left = left_by(&rt, alloc, file.as_slice(), &[12], Course::BothAreStopped)?;
-    assert_eq!(rt; desk_of(alloc, left.as_slice())?.front(), 3);
+    let disk = left_by(&rt, alloc, file.as_slice(), &[], Course::TheOtherReplies)?;
+    assert_eq!(rt; entries_left(alloc, &disk, Choice::Old)?, 4);
     Ok(())
 }
 

@@ -1,4 +1,4 @@
-//! Copies of real states, in one thread.
+//! Copies of real states, and places beside their writer, in one thread.
 ghost use Rattle.std.specs.Prelude.{◌≡◌};
 ghost use Rattle.archive_state.specs.Admits.{IsAdmit};
 
@@ -14,6 +14,8 @@ use std::marker::Brand;
 use std::process::Abort;
 use std::test::Fail;
 
+mod places;
+
 const HA1: &str = "939e7578ed9e3c518a452acee763bce9";
 
 const USERS: &[u8] =
@@ -27,7 +29,20 @@ const ANMO_HEAD: [u8; 56] = [
     0x03, 0xe8, 0x00, 0x00, 0x0a, 0x01, 0x09, 0x00,
 ];
 
-fn entry(alloc: Global, number: u64, author: &str, kind: Kind, body: &[u8]) -> Result<Entry, Fail> {
+fn anmo_record() -> [u8; 512] {
+    let mut record = [0; 512];
+    record[..56].copy_from_slice(&ANMO_HEAD);
+    record
+}
+
+fn entry(
+    alloc: Global,
+    number: u64,
+    author: &str,
+    seq: u64,
+    kind: Kind,
+    body: &[u8],
+) -> Result<Entry, Fail> {
     let mut name = Text::new(alloc);
     name.push(author)?;
     let mut bytes = Bytes::new(alloc);
@@ -36,7 +51,7 @@ fn entry(alloc: Global, number: u64, author: &str, kind: Kind, body: &[u8]) -> R
         number,
         moment: Moment { micros: 0 },
         author: name,
-        seq: 1,
+        seq,
         kind,
         body: bytes,
     })
@@ -109,12 +124,10 @@ fn taken_once<J: Naming>(
 #[test]
 fn a_copy_takes_each_entry_once_and_in_order(rt: HostRuntime) -> Result<(), Fail> {
     let alloc: Global = rt.alloc();
-    let mut record = [0; 512];
-    record[..56].copy_from_slice(&ANMO_HEAD);
     let entries = [
         founding_entry(alloc, "op", HA1)?,
-        entry(alloc, 2, "op", Kind::Revise, USERS)?,
-        entry(alloc, 3, "feed1", Kind::Batch, &record)?,
+        entry(alloc, 2, "op", 1, Kind::Revise, USERS)?,
+        entry(alloc, 3, "feed1", 1, Kind::Batch, &anmo_record())?,
     ];
     taken_once::<Brand>(&rt, alloc, Opened::new(), entries)
 }

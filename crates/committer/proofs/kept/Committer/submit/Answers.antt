@@ -60,6 +60,7 @@ returns-in_default g c =
           (λ i. (sym same.1 i, sym (all.0 ∙ same.1) i))
           (ruled_row s.latest s.front t p m set v k c.count-judged.ensures.begins c.count-judged.ensures.count (c.in_ok-verdict.ensures.verdict ∙ ap (λ (es : List Entry). ruling es p m set) same.1) c.in_default.not-Accept);
       disk = λ e one. kept_still view s.archive mid.archive s.latest s.latest e _ (ap (λ (a : Archived g.row.D.Denot). a.disk) same.0) (ap (λ (a : Archived g.row.D.Denot). a.faults) same.0) refl c.count-judged.ensures.rest (λ so. absurd (cc (so)));
+      halted = λ before. (same.0, same.1, refl);
     }
 
 pub accept-requires-clause-next : goal.accept-requires-clause-next
@@ -183,3 +184,10 @@ returns-clause-disk g c =
     let posted : posted_entry s.latest p m set ≡ Some entry = ap (λ (es : List Entry). posted_entry es p m set) (sym same.1) ∙ (entry_is l p m set name n who rules ∙ ap Some (sym same_entry)) in
     let x = c.accept.new.self in
     λ e one. one_call view s.archive mid.archive x.archive l s.latest entry e (posted_entry s.latest p m set) _ _ same.0 same.1 posted one (λ so. absurd (cc (so))) c.accept.ensures.disk
+
+pub returns-in_err-accept-clause-halted : goal.returns-in_err-accept-clause-halted
+returns-in_err-accept-clause-halted g c before =
+    let same = c.flush.ensures.same in
+    let halted = c.accept.ensures.halted (ap (λ (a : Archived g.row.D.Denot). a.stopped) same.0 ∙ before) in
+    let stopped = c.accept.ensures.stopped halted.0 in
+    (halted.1 ∙ same.0, stopped.0 ∙ same.1, ap (λ (t : Tally). t.made) stopped.2)
