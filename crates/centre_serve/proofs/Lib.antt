@@ -1,0 +1,4 @@
+pub mod Finish
+pub mod Opening
+pub mod Seating
+pub mod Whole

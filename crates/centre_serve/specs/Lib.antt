@@ -1,0 +1,4 @@
+pub mod Rows
+pub mod Service
+pub mod Stops
+pub mod Whole
