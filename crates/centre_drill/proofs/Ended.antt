@@ -1,0 +1,51 @@
+-- The rows in which a drill ends.
+use Rattle.std.proofs.Common.{◌≡◌, ◌∙◌, ℕ, true, List, Result, Ok, Err, refl, sym, ap, subst}
+use Rattle.disk_model.specs.View.{DiskView, IsHonest, WhereTold, DiskRun}
+use Rattle.archive_entry.specs.declared.entry.Entry.{Entry}
+use Rattle.archive_state.specs.declared.admit.Admit.{Admit}
+use Rattle.archive_log.specs.Archive.{Archived, Stands}
+use Rattle.streams.specs.View.{StreamView}
+use Rattle.centre_drill.specs.Drill.{DrillRow, HasDrilled, HasStopped, IsArchiveMade, TellsFigures}
+use Rattle.centre_drill.specs.History.{made_history}
+use Rattle.centre_drill.specs.Making.{Begins, IsSilentStop, IsUnderWay}
+use Rattle.centre_drill.specs.declared.ending.DrillStop.{DrillStop}
+use Rattle.centre_drill.specs.declared.ending.DrillStop.TheVariants.{WriteFault, DiskFault, NotEmpty, OutOfMemory}
+use Rattle.centre_drill.proofs.Steps.{holds}
+
+-- no archive was made
+pub stopped_row : {T : Type 0} (count : ℕ) (sink : StreamView) (disk left : DiskView) (stop : DrillStop) → IsSilentStop stop → Begins {T = T} disk left (Err stop) → DrillRow count sink sink disk left (Err stop)
+stopped_row count sink disk left DiskFault silent run = record { silent = refl; run = record { tells = run.tells; later = run.later; cause = λ failed. run.cause refl; told = λ told. tt } }
+stopped_row count sink disk left (NotEmpty len) silent run = record {
+  silent = refl;
+  run = record {
+    tells = run.tells;
+    later = run.later;
+    cause = λ failed. absurd failed;
+    told = λ told. let begun = run.told told in record { len_is = begun.fault.0; some = begun.fault.1; kept = begun.kept len refl };
+  };
+}
+stopped_row count sink disk left OutOfMemory silent run = record { silent = refl; run = record { tells = run.tells; later = run.later; cause = λ failed. absurd failed; told = λ told. tt } }
+stopped_row count sink disk left WriteFault silent run = absurd silent
+
+module _ {D T : Type 0} (view : D → DiskView) (count : ℕ) (before : DiskView) (archive : Archived D) (admit : Admit) (state : List Entry) (left : D) (made : T)
+    (begins : Begins before (view archive.disk) (Ok made)) (way : IsUnderWay view archive admit state) (state_is : state ≡ made_history count) (left_is : left ≡ archive.disk)
+    (honest : WhereTold (view archive.disk) (IsHonest (view archive.disk))) (stands : WhereTold (view archive.disk) (Stands view archive)) where
+  made_run : DiskRun before (view archive.disk) ⊥ (IsArchiveMade count before (view archive.disk))
+  made_run = record {
+    tells = begins.tells;
+    later = begins.later;
+    cause = λ failed. absurd failed;
+    told = λ told.
+        let here = begins.tells ∙ told in
+        record { empty = (begins.told told).empty; holds = holds view archive (made_history count) (honest here) (stands here) way.running (way.history here ∙ state_is) };
+  }
+
+  run : DiskRun before (view left) ⊥ (IsArchiveMade count before (view left))
+  run = subst (λ (d : D). DiskRun before (view d) ⊥ (IsArchiveMade count before (view d))) (sym left_is) made_run
+
+  pub made_row : (sink sunk : StreamView) (ending : Result (Unit {0}) DrillStop) → TellsFigures state sink sunk ending → DrillRow count sink sunk before (view left) ending
+  made_row sink sunk (Ok done) told = record { made = run; told = subst (λ (h : List Entry). TellsFigures h sink sunk (Ok done)) state_is told }
+  made_row sink sunk (Err WriteFault) told = record { made = run; told = subst (λ (h : List Entry). TellsFigures h sink sunk (Err WriteFault)) state_is told }
+  made_row sink sunk (Err OutOfMemory) told = record { silent = told; run = record { tells = run.tells; later = run.later; cause = λ failed. absurd failed; told = λ t. tt } }
+  made_row sink sunk (Err DiskFault) told = absurd told
+  made_row sink sunk (Err (NotEmpty len)) told = absurd told

@@ -1,0 +1,9 @@
+mod Accepted
+mod Begun
+mod Counts
+mod Ended
+mod Heads
+mod MadeRows
+mod Named
+mod Steps
+mod Users

@@ -1,0 +1,6 @@
+pub mod Credentials
+pub mod Drill
+pub mod Figures
+pub mod History
+pub mod Making
+pub mod Records
