@@ -229,7 +229,7 @@ streams_before = record {
 }
 
 abbrev before : World (Unit {0})
-before = record { streams = streams_before; disk = tt; given = None; trail = None }
+before = record { streams = streams_before; disk = tt; given = None; trail = None; ports = [] }
 
 abbrev streams_after : Streams
 streams_after = record {
@@ -238,7 +238,7 @@ streams_after = record {
 }
 
 abbrev after : World (Unit {0})
-after = record { streams = streams_after; disk = tt; given = None; trail = None }
+after = record { streams = streams_after; disk = tt; given = None; trail = None; ports = [] }
 
 selected : IsSelected words streams_before streams_after
 selected = record { input = anmo_image; body = anmo_image; had = refl; answer = answer; end = refl; output = refl }

@@ -4,9 +4,9 @@ use Rattle.disk_model.specs.View.{DiskView, WhereTold}
 use Rattle.centre.specs.declared.ending.Refusal.{Refusal}
 use Rattle.centre.specs.declared.ending.Refusal.TheVariants.{UnknownCommand, Value, Order, Record, NoData, TooLarge, InputTooLong, NotEmpty, NotAJournal, Damaged, RequestCut}
 use Rattle.centre.specs.declared.ending.Stop.{Stop}
-use Rattle.centre.specs.declared.ending.Stop.TheVariants.{Refused, ReadFault, WriteFault, DiskFault, OutOfMemory}
+use Rattle.centre.specs.declared.ending.Stop.TheVariants.{Refused, ReadFault, WriteFault, DiskFault, PortFault, OutOfMemory}
 use Rattle.centre.specs.Answers.{IsAnswer, IsSelectAnswer, RefusesInput}
-use Rattle.command_words.specs.Commands.{SelectWords, InitWords, TalkWords, Command, select, init, talk, show}
+use Rattle.command_words.specs.Commands.{SelectWords, InitWords, TalkWords, ServeWords, DrillWords, Command, select, init, talk, serve, drill, show}
 use Rattle.centre.specs.Given.{Streams, World, Given, AreGiven}
 use Rattle.centre.specs.Shown.{text_shown}
 use Rattle.centre.specs.Settled.{IsFree, status_of_answer, text_of_answer}
@@ -30,6 +30,8 @@ use Rattle.centre_session.specs.declared.ending.SessionEnd.TheVariants as sessio
 use Rattle.centre_talk.specs.Link.{joined}
 use Rattle.centre_talk.specs.Talk.{HasTalked}
 use Rattle.centre.specs.Given.{place_at}
+use Rattle.centre.specs.Serves.{ServeEnding}
+use Rattle.centre.specs.Drills.{DrillEnding, drill_text}
 use Rattle.centre.specs.Talks.{IsServed, TalkEnding}
 use Rattle.centre.specs.Table.{IsStarved}
 
@@ -52,8 +54,11 @@ six = inr (inl refl)
 abbrev seven : IsFree 7
 seven = inr (inr (inl refl))
 
+abbrev eight : IsFree 8
+eight = inr (inr (inr (inl refl)))
+
 abbrev pub seventy : IsFree 70
-seventy = inr (inr (inr refl))
+seventy = inr (inr (inr (inr refl)))
 
 had_that : (left : Option (List ℕ)) (input had : List ℕ) → left ≡ Some input → Had left had → input ≡ had
 had_that left input had e h = subst (λ (o : Option (List ℕ)). Had o had) e h
@@ -73,6 +78,7 @@ unknown_ended given before after (Err (Refused RequestCut)) row = absurd row
 unknown_ended given before after (Err ReadFault) row = absurd row
 unknown_ended given before after (Err WriteFault) row = absurd row
 unknown_ended given before after (Err DiskFault) row = absurd row
+unknown_ended given before after (Err PortFault) row = absurd row
 unknown_ended given before after (Err OutOfMemory) row = absurd row
 unknown_ended given before after (Ok done) row = absurd row
 
@@ -82,6 +88,7 @@ show_ended command given text before after (Err WriteFault) is row = inl six
 show_ended command given text before after (Err (Refused refusal)) is row = absurd row
 show_ended command given text before after (Err ReadFault) is row = absurd row
 show_ended command given text before after (Err DiskFault) is row = absurd row
+show_ended command given text before after (Err PortFault) is row = absurd row
 show_ended command given text before after (Err OutOfMemory) is row = absurd row
 
 select_ended : (w : SelectWords) (given : Given) (before after : Streams) (ending : Result (Unit {0}) Stop) → before.source.left ≡ Some given.input → SelectRow w before after ending → Ended (Some (select w)) given ending
@@ -97,6 +104,7 @@ select_ended w given before after (Err (Refused refusal)) e (inr row) =
 select_ended w given before after (Err ReadFault) e row = inl five
 select_ended w given before after (Err WriteFault) e row = inl six
 select_ended w given before after (Err DiskFault) e row = absurd row
+select_ended w given before after (Err PortFault) e row = absurd row
 select_ended w given before after (Err OutOfMemory) e row = inl seventy
 
 some_bytes : (len : ℕ) (file : List ℕ) → len ≡ length file → 0 < len → file ≢ []
@@ -113,6 +121,7 @@ init_ended view w given before after (Err (Refused NotEmpty)) e row =
     let file : (view before.disk).content ≢ [] = some_bytes row.0 (view before.disk).content made.fault.0 made.fault.1 in
     inr (record { answer = Err NotEmpty; is = λ none. file (e.1 ∙ none); status_is = refl; text_is = refl })
 init_ended view w given before after (Err DiskFault) e row = inl seven
+init_ended view w given before after (Err PortFault) e row = absurd row
 init_ended view w given before after (Err OutOfMemory) e row = inl seventy
 init_ended view w given before after (Err (Refused UnknownCommand)) e row = absurd row
 init_ended view w given before after (Err (Refused (Value word))) e row = absurd row
@@ -126,6 +135,31 @@ init_ended view w given before after (Err (Refused (Damaged at))) e row = absurd
 init_ended view w given before after (Err (Refused RequestCut)) e row = absurd row
 init_ended view w given before after (Err ReadFault) e row = absurd row
 init_ended view w given before after (Err WriteFault) e row = absurd row
+
+drill_ended : {D : Type 0} (view : D → DiskView) (w : DrillWords) (given : Given) (before after : World D) (ending : Result (Unit {0}) Stop) → AreGiven view (Some (drill w)) before after given → DrillEnding view w before after ending
+    → Ended (Some (drill w)) given ending
+drill_ended view w given before after (Ok done) e row =
+    let made = row.row.made.told e.0 in
+    inr (record { answer = Ok (drill_text w.records); is = (sym e.1 ∙ made.empty, refl); status_is = refl; text_is = refl })
+drill_ended view w given before after (Err WriteFault) e row = inl six
+drill_ended view w given before after (Err (Refused NotEmpty)) e row =
+    let was = row.1.row.run.told e.0 in
+    let file : (view before.disk).content ≢ [] = some_bytes row.0 (view before.disk).content was.len_is was.some in
+    inr (record { answer = Err NotEmpty; is = λ none. file (e.1 ∙ none); status_is = refl; text_is = refl })
+drill_ended view w given before after (Err DiskFault) e row = inl seven
+drill_ended view w given before after (Err OutOfMemory) e row = inl seventy
+drill_ended view w given before after (Err (Refused UnknownCommand)) e row = absurd row
+drill_ended view w given before after (Err (Refused (Value word))) e row = absurd row
+drill_ended view w given before after (Err (Refused Order)) e row = absurd row
+drill_ended view w given before after (Err (Refused (Record at fault))) e row = absurd row
+drill_ended view w given before after (Err (Refused NoData)) e row = absurd row
+drill_ended view w given before after (Err (Refused (TooLarge bytes limit))) e row = absurd row
+drill_ended view w given before after (Err (Refused InputTooLong)) e row = absurd row
+drill_ended view w given before after (Err (Refused NotAJournal)) e row = absurd row
+drill_ended view w given before after (Err (Refused (Damaged at))) e row = absurd row
+drill_ended view w given before after (Err (Refused RequestCut)) e row = absurd row
+drill_ended view w given before after (Err ReadFault) e row = absurd row
+drill_ended view w given before after (Err PortFault) e row = absurd row
 
 -- what was read in front of the same rest is the same
 taken_once : (left after : Option (List ℕ)) (a b : List ℕ) → IsSome left → Consumes left after a → Consumes left after b → a ≡ b
@@ -185,6 +219,7 @@ talk_ended view secret w given before after (Err (Refused (Damaged at))) e row =
 talk_ended view secret w given before after (Err ReadFault) e row = inl five
 talk_ended view secret w given before after (Err WriteFault) e row = inl six
 talk_ended view secret w given before after (Err DiskFault) e row = inl seven
+talk_ended view secret w given before after (Err PortFault) e row = absurd row
 talk_ended view secret w given before after (Err OutOfMemory) e row = inl seventy
 talk_ended view secret w given before after (Err (Refused UnknownCommand)) e row = absurd row
 talk_ended view secret w given before after (Err (Refused (Value word))) e row = absurd row
@@ -194,6 +229,36 @@ talk_ended view secret w given before after (Err (Refused NoData)) e row = absur
 talk_ended view secret w given before after (Err (Refused (TooLarge bytes limit))) e row = absurd row
 talk_ended view secret w given before after (Err (Refused InputTooLong)) e row = absurd row
 talk_ended view secret w given before after (Err (Refused NotEmpty)) e row = absurd row
+
+serve_ended : {D : Type 0} (view : D → DiskView) (secret : Secret) (w : ServeWords) (given : Given) (before after : World D) (ending : Result (Unit {0}) Stop) → AreGiven view (Some (serve w)) before after given → ServeEnding view secret w before after ending
+    → Ended (Some (serve w)) given ending
+serve_ended view secret w given before after (Ok done) e row =
+    let opened = row.row in
+    let F : List ℕ → Type 0 = λ file. IsHistoryOf file opened.opening in
+    inr (record {
+      answer = Ok [];
+      is = (refl, (opened.opening, record { history = subst F e.1 (opened.opened e.0); some = opened.some }));
+      status_is = refl;
+      text_is = refl;
+    })
+serve_ended view secret w given before after (Err (Refused NotAJournal)) e row =
+    inr (record { answer = Err NotAJournal; is = subst (λ (file : List ℕ). IsStartFault file start.NotAJournal) e.1 (row.row.cause e.0); status_is = refl; text_is = refl })
+serve_ended view secret w given before after (Err (Refused (Damaged at))) e row =
+    inr (record { answer = Err (Damaged at); is = subst (λ (file : List ℕ). IsStartFault file (start.Damaged at)) e.1 (row.row.cause e.0); status_is = refl; text_is = refl })
+serve_ended view secret w given before after (Err DiskFault) e row = inl seven
+serve_ended view secret w given before after (Err PortFault) e row = inl eight
+serve_ended view secret w given before after (Err OutOfMemory) e row = inl seventy
+serve_ended view secret w given before after (Err ReadFault) e row = absurd row
+serve_ended view secret w given before after (Err WriteFault) e row = absurd row
+serve_ended view secret w given before after (Err (Refused RequestCut)) e row = absurd row
+serve_ended view secret w given before after (Err (Refused UnknownCommand)) e row = absurd row
+serve_ended view secret w given before after (Err (Refused (Value word))) e row = absurd row
+serve_ended view secret w given before after (Err (Refused Order)) e row = absurd row
+serve_ended view secret w given before after (Err (Refused (Record at fault))) e row = absurd row
+serve_ended view secret w given before after (Err (Refused NoData)) e row = absurd row
+serve_ended view secret w given before after (Err (Refused (TooLarge bytes limit))) e row = absurd row
+serve_ended view secret w given before after (Err (Refused InputTooLong)) e row = absurd row
+serve_ended view secret w given before after (Err (Refused NotEmpty)) e row = absurd row
 
 pub ended : {D : Type 0} (view : D → DiskView) (secret : Secret) (command : Option Command) (given : Given) (before after : World D) (ending : Result (Unit {0}) Stop) → AreGiven view command before after given
     → IsStarved before after ending ⊎ IsEnding view secret command before after ending → Ended command given ending
@@ -205,3 +270,5 @@ ended view secret (Some (show text)) given before after ending e (inr row) = sho
 ended view secret (Some (select w)) given before after ending e (inr row) = select_ended w given before.streams after.streams ending e row.0
 ended view secret (Some (init w)) given before after ending e (inr row) = init_ended view w given before after ending e row
 ended view secret (Some (talk w)) given before after ending e (inr row) = talk_ended view secret w given before after ending e row
+ended view secret (Some (serve w)) given before after ending e (inr row) = serve_ended view secret w given before after ending e row
+ended view secret (Some (drill w)) given before after ending e (inr row) = drill_ended view w given before after ending e row

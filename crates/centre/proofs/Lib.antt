@@ -1,13 +1,17 @@
 pub mod Cases
+pub mod DrillRows
 pub mod Finished
 pub mod Examples
 pub mod Inputs
 pub mod OneAnswer
 pub mod OneEnding
 pub mod OneQuery
+pub mod OneService
 pub mod OneTalk
+pub mod Ports
 pub mod Rows
 pub mod SelectWords
+pub mod ServeRows
 pub mod Settling
 pub mod Shelved
 pub mod SomeAnswer

@@ -30,7 +30,7 @@ not_closed file input (inl p) q = let bad = one_end_of file input closing cut p 
 not_closed file input (inr p) q = let bad = one_end_of file input over cut p q in absurd cc
 
 -- how a file that is no archive is refused
-data Refuses (file : List ℕ) (answer : Result (List ℕ) Refusal) : Type 0 where
+pub data Refuses (file : List ℕ) (answer : Result (List ℕ) Refusal) : Type 0 where
   no_journal : IsStartFault file start.NotAJournal → answer ≡ Err NotAJournal → Refuses file answer
   damaged : (at : ℕ) → IsStartFault file (start.Damaged at) → answer ≡ Err (Damaged at) → Refuses file answer
 
@@ -62,7 +62,7 @@ opens_closed : (file input : List ℕ) (answer : Result (List ℕ) Refusal) → 
 opens_closed file input answer (inl p) q = opens file input closing answer p q
 opens_closed file input answer (inr p) q = opens file input over answer p q
 
-one_refusal : (file : List ℕ) (a b : Result (List ℕ) Refusal) → Refuses file a → Refuses file b → a ≡ b
+pub one_refusal : (file : List ℕ) (a b : Result (List ℕ) Refusal) → Refuses file a → Refuses file b → a ≡ b
 one_refusal file a b (no_journal p e) (no_journal q f) = e ∙ sym f
 one_refusal file a b (no_journal p e) (damaged at q f) = let bad = one_fault file start.NotAJournal (start.Damaged at) p q in absurd cc
 one_refusal file a b (damaged at p e) (no_journal q f) = let bad = one_fault file (start.Damaged at) start.NotAJournal p q in absurd cc

@@ -18,11 +18,11 @@ use Rattle.dataselect.specs.DataBody.{answer_of, body_or_empty, images_at, Refus
 use Rattle.centre.specs.Limits.{most_input}
 use Rattle.centre.specs.declared.ending.Refusal.TheVariants.{UnknownCommand, Value, Order, Record, NoData, TooLarge, InputTooLong, NotEmpty, NotAJournal, Damaged, RequestCut}
 use Rattle.centre.specs.declared.ending.Stop.{Stop}
-use Rattle.centre.specs.declared.ending.Stop.TheVariants.{Refused, ReadFault, WriteFault, DiskFault, OutOfMemory}
+use Rattle.centre.specs.declared.ending.Stop.TheVariants.{Refused, ReadFault, WriteFault, DiskFault, PortFault, OutOfMemory}
 use Rattle.centre.specs.Answers.{IsBodyOf, RefusesInput, places_for, all_seen, stop_for_data}
 use Rattle.streams.specs.Effects.{Grew, WritesPart}
 use Rattle.streams.specs.View.{StreamView}
-use Rattle.command_words.specs.Commands.{SelectWords, InitWords, TalkWords, Command, select, init, talk, show}
+use Rattle.command_words.specs.Commands.{SelectWords, InitWords, TalkWords, Command, select, init, talk, serve, drill, show}
 use Rattle.centre.specs.Shown.{text_shown}
 use Rattle.centre.specs.Given.{Streams, World, place_at}
 use Rattle.centre.specs.Table.{Tells, IsInit, SelectRow, ShowRow, InitRow, UnknownRow, IsStarved, IsEnding, ToldFor, stop_for_founding}
@@ -36,6 +36,8 @@ use Rattle.centre_talk.specs.declared.ending.TalkStop.TheVariants as talk_stop
 use Rattle.centre.specs.Talks.{IsTalk, TalkEnding, stop_for_talk}
 use Rattle.centre.specs.Had.{Had}
 use Rattle.centre.specs.Intake.{AreAsked, HasTaken, IntakeStops}
+use Rattle.centre.proofs.ServeRows.{told_serve}
+use Rattle.centre.proofs.DrillRows.{told_drill}
 use Rattle.centre.proofs.Inputs.{had_all}
 use Rattle.centre.specs.Words.{IsSelectQuery, RefusesSelectWords, StopsWith}
 
@@ -46,6 +48,7 @@ words_row w world OutOfMemory why = refl
 words_row w world ReadFault why = absurd why
 words_row w world WriteFault why = absurd why
 words_row w world DiskFault why = absurd why
+words_row w world PortFault why = absurd why
 
 -- taking the input stopped
 pub read_row : (w : SelectWords) (query : DataQuery) (before after : Streams) (stop : Stop) → IsSelectQuery w query → after.sink ≡ before.sink
@@ -56,6 +59,7 @@ read_row w query before after (Refused InputTooLong) asked kept why =
 read_row w query before after OutOfMemory asked kept why = kept
 read_row w query before after WriteFault asked kept why = absurd why
 read_row w query before after DiskFault asked kept why = absurd why
+read_row w query before after PortFault asked kept why = absurd why
 read_row w query before after (Refused NotEmpty) asked kept why = absurd why
 read_row w query before after (Refused NotAJournal) asked kept why = absurd why
 read_row w query before after (Refused (Damaged at)) asked kept why = absurd why
@@ -77,6 +81,7 @@ input_row w query input before after OutOfMemory asked had kept why = kept
 input_row w query input before after ReadFault asked had kept why = absurd why
 input_row w query input before after WriteFault asked had kept why = absurd why
 input_row w query input before after DiskFault asked had kept why = absurd why
+input_row w query input before after PortFault asked had kept why = absurd why
 
 pub same_sink : (before after : Streams) → after ≡ before → after.sink ≡ before.sink
 same_sink before after same = λ i. (same i).sink
@@ -104,6 +109,7 @@ told_select w before after (Refused NotAJournal) told row e = let P : Stop → T
 told_select w before after (Refused (Damaged at)) told row e = made_row w before after (Damaged at) told row e
 told_select w before after (Refused RequestCut) told row e = let P : Stop → Type 0 = λ s. SelectRow w before after (Err s) in subst P (sym e) row
 told_select w before after DiskFault told row e = absurd row
+told_select w before after PortFault told row e = absurd row
 told_select w before after ReadFault told row e = let P : Stop → Type 0 = λ s. SelectRow w before after (Err s) in subst P (sym e) row
 told_select w before after WriteFault told row e = let P : Stop → Type 0 = λ s. SelectRow w before after (Err s) in subst P (sym e) row
 told_select w before after OutOfMemory told row e = let P : Stop → Type 0 = λ s. SelectRow w before after (Err s) in subst P (sym e) row
@@ -113,6 +119,7 @@ told_show text before after WriteFault told row e = let P : Stop → Type 0 = λ
 told_show text before after (Refused refusal) told row e = absurd row
 told_show text before after ReadFault told row e = absurd row
 told_show text before after DiskFault told row e = absurd row
+told_show text before after PortFault told row e = absurd row
 told_show text before after OutOfMemory told row e = absurd row
 
 told_unknown : {D : Type 0} (before after : World D) (stop told : Stop) → UnknownRow before after (Err stop) → ToldFor stop told → UnknownRow before after (Err told)
@@ -129,12 +136,14 @@ told_unknown before after (Refused (Damaged at)) told row e = absurd row
 told_unknown before after (Refused RequestCut) told row e = absurd row
 told_unknown before after ReadFault told row e = absurd row
 told_unknown before after DiskFault told row e = absurd row
+told_unknown before after PortFault told row e = absurd row
 told_unknown before after WriteFault told row e = absurd row
 told_unknown before after OutOfMemory told row e = absurd row
 
 told_init : {D : Type 0} (view : D → DiskView) (w : InitWords) (before after : World D) (stop told : Stop) → InitRow view w before after (Err stop) → ToldFor stop told → InitRow view w before after (Err told)
 told_init view w before after (Refused NotEmpty) told row e = let P : Stop → Type 0 = λ s. InitRow view w before after (Err s) in subst P (sym e) row
 told_init view w before after DiskFault told row e = let P : Stop → Type 0 = λ s. InitRow view w before after (Err s) in subst P (sym e) row
+told_init view w before after PortFault told row e = absurd row
 told_init view w before after OutOfMemory told row e = let P : Stop → Type 0 = λ s. InitRow view w before after (Err s) in subst P (sym e) row
 told_init view w before after (Refused UnknownCommand) told row e = absurd row
 told_init view w before after (Refused (Value word)) told row e = absurd row
@@ -172,7 +181,7 @@ talk_row view secret w before after (talk_stop.Damaged at) row = row
 
 starved_talk : {D : Type 0} (view : D → DiskView) (secret : Secret) (w : TalkWords) (before after : World D) (at : ℕ) → IsTalk view secret w before after (Err (talk_stop.Damaged at)) → IsTalk view secret w before after (Err talk_stop.OutOfMemory)
 starved_talk view secret w before after at row =
-    record { limits = row.limits; limits_are = row.limits_are; row = inl (damaged_starved (place_at view before) (place_at view after) after.trail at row.row) }
+    record { limits = row.limits; limits_are = row.limits_are; ports = row.ports; row = inl (damaged_starved (place_at view before) (place_at view after) after.trail at row.row) }
 
 told_talk : {D : Type 0} (view : D → DiskView) (secret : Secret) (w : TalkWords) (before after : World D) (stop told : Stop) → TalkEnding view secret w before after (Err stop) → ToldFor stop told → TalkEnding view secret w before after (Err told)
 told_talk view secret w before after (Refused (Damaged at)) told row (inl same) = let P : Stop → Type 0 = λ s. TalkEnding view secret w before after (Err s) in subst P (sym same) row
@@ -183,6 +192,7 @@ told_talk view secret w before after (Refused NotAJournal) told row e = let P : 
 told_talk view secret w before after ReadFault told row e = let P : Stop → Type 0 = λ s. TalkEnding view secret w before after (Err s) in subst P (sym e) row
 told_talk view secret w before after WriteFault told row e = let P : Stop → Type 0 = λ s. TalkEnding view secret w before after (Err s) in subst P (sym e) row
 told_talk view secret w before after DiskFault told row e = let P : Stop → Type 0 = λ s. TalkEnding view secret w before after (Err s) in subst P (sym e) row
+told_talk view secret w before after PortFault told row e = absurd row
 told_talk view secret w before after OutOfMemory told row e = let P : Stop → Type 0 = λ s. TalkEnding view secret w before after (Err s) in subst P (sym e) row
 told_talk view secret w before after (Refused UnknownCommand) told row e = absurd row
 told_talk view secret w before after (Refused (Value word)) told row e = absurd row
@@ -199,12 +209,15 @@ told_command view secret (Some (show shown)) before after stop told row e = (tol
 told_command view secret (Some (select w)) before after stop told row e = (told_select w before.streams after.streams stop told row.0 e, row.1)
 told_command view secret (Some (init w)) before after stop told row e = told_init view w before after stop told row e
 told_command view secret (Some (talk w)) before after stop told row e = told_talk view secret w before after stop told row e
+told_command view secret (Some (serve w)) before after stop told row e = told_serve view secret w before after stop told row e
+told_command view secret (Some (drill w)) before after stop told row e = told_drill view w before after stop told row e
 
 told_starved : {D : Type 0} (before after : World D) (stop told : Stop) → IsStarved before after (Err stop) → ToldFor stop told → IsStarved before after (Err told)
-told_starved before after OutOfMemory told row e = (ap Err e, row.1)
+told_starved before after OutOfMemory told row e = (ap Err e, row.1, row.2)
 told_starved before after ReadFault told row e = let bad = row.0 in absurd cc
 told_starved before after WriteFault told row e = let bad = row.0 in absurd cc
 told_starved before after DiskFault told row e = let bad = row.0 in absurd cc
+told_starved before after PortFault told row e = let bad = row.0 in absurd cc
 told_starved before after (Refused refusal) told row e = let bad = row.0 in absurd cc
 
 -- what is told has a row of the table

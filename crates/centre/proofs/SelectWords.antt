@@ -10,7 +10,7 @@ use Rattle.centre.specs.declared.ending.Word.{Word}
 use Rattle.centre.specs.declared.ending.Refusal.{Refusal}
 use Rattle.centre.specs.declared.ending.Refusal.TheVariants.{Value}
 use Rattle.centre.specs.declared.ending.Stop.{Stop}
-use Rattle.centre.specs.declared.ending.Stop.TheVariants.{Refused, ReadFault, WriteFault, DiskFault, OutOfMemory as NoMemory}
+use Rattle.centre.specs.declared.ending.Stop.TheVariants.{Refused, ReadFault, WriteFault, DiskFault, PortFault, OutOfMemory as NoMemory}
 use Rattle.command_words.specs.Commands.{SelectWords}
 use Rattle.centre.specs.Words.{CanReadWord, CanReadWords, IsList, RefusesSelectWords, StopsWith, tested_words, stop_for}
 
@@ -31,6 +31,7 @@ first_word w word before after split all NoMemory h = tt
 first_word w word before after split all ReadFault h = absurd h
 first_word w word before after split all WriteFault h = absurd h
 first_word w word before after split all DiskFault h = absurd h
+first_word w word before after split all PortFault h = absurd h
 
 -- the same of a refusal
 pub first_refused : (w : SelectWords) (word : Word) (before after : List Word) (refusal : Refusal) → tested_words ≡ before ++ word ∷ after → CanReadWords w before

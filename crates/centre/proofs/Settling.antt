@@ -5,21 +5,24 @@ use Rattle.disk_model.specs.View.{DiskView, WhereTold}
 use Rattle.centre.specs.declared.ending.Refusal.{Refusal}
 use Rattle.centre.specs.declared.ending.Refusal.TheVariants.{UnknownCommand, Value, Order, Record, NoData, TooLarge, InputTooLong, NotEmpty, NotAJournal, Damaged, RequestCut}
 use Rattle.centre.specs.declared.ending.Stop.{Stop}
-use Rattle.centre.specs.declared.ending.Stop.TheVariants.{Refused, ReadFault, WriteFault, DiskFault, OutOfMemory}
+use Rattle.centre.specs.declared.ending.Stop.TheVariants.{Refused, ReadFault, WriteFault, DiskFault, PortFault, OutOfMemory}
 use Rattle.centre.specs.Answers.{IsAnswer}
-use Rattle.command_words.specs.Commands.{InitWords, TalkWords, Command, select, init, talk, show}
+use Rattle.command_words.specs.Commands.{InitWords, TalkWords, ServeWords, DrillWords, Command, select, init, talk, serve, drill, show}
 use Rattle.centre.specs.Given.{World, Given, AreGiven, Told}
 use Rattle.centre.specs.Settled.{IsFree, ComesWhere, IsComplete, IsCutShort, IsSettled, HasWritten, IsRefused, IsTooLarge, HoldsNewArchive, KeepsFile, KeepsUnused, status_of_answer, text_of_answer}
 use Rattle.centre.specs.Status.{status_of_run, text_of_run}
 use Rattle.streams.specs.View.{StreamView}
 use Rattle.centre.specs.Table.{Tells, IsEnding, IsRun}
+use Rattle.centre_drill.specs.Drill.{HoldsHistory}
+use Rattle.centre_drill.specs.History.{made_history}
 use Rattle.centre.proofs.OneAnswer.{one_answer}
 use Rattle.exact_time.specs.declared.moment.Moment.{Moment}
 use Rattle.http_digest.specs.declared.secret.Secret.{Secret}
-use Rattle.centre.specs.Settled.{KeepsSink, AsksNoClock, IsNoArchive, IsUnknown, HasEndedTalk, RunRows}
+use Rattle.centre.specs.Settled.{KeepsSink, AsksNoClock, IsNoArchive, IsUnknown, KeepsPorts, HasEndedTalk, HasEndedServe, RunRows}
 use Rattle.centre.specs.Table.{IsStarved}
+use Rattle.centre_serve.specs.Whole.{OneRose}
 use Rattle.centre.proofs.Finished.{ended}
-use Rattle.centre.proofs.Cases.{written, cut_row, rose_row, disk_row, kept_row, unused_row, clock_row, nine_row, founded_row, no_fault, one_is_unknown, unknown_is_one}
+use Rattle.centre.proofs.Cases.{written, cut_row, rose_row, disk_row, kept_row, unused_row, clock_row, port_row, ports_row, nine_row, founded_row, drilled_row, no_fault, one_is_unknown, unknown_is_one}
 
 -- an answer with this status
 record HasStatus (command : Option Command) (given : Given) (status : ℕ) : Type 0 where
@@ -101,11 +104,12 @@ eleven_is command given (Err NotEmpty) is e = absurd (omega (arith, e))
 eleven_is command given (Err NotAJournal) is e = absurd (omega (arith, e))
 eleven_is command given (Err (Damaged at)) is e = absurd (omega (arith, e))
 
-not_free : (n : ℕ) → (n ≡ 5 → ⊥) → (n ≡ 6 → ⊥) → (n ≡ 7 → ⊥) → (n ≡ 70 → ⊥) → IsFree n → ⊥
-not_free n five six seven seventy (inl e) = five e
-not_free n five six seven seventy (inr (inl e)) = six e
-not_free n five six seven seventy (inr (inr (inl e))) = seven e
-not_free n five six seven seventy (inr (inr (inr e))) = seventy e
+not_free : (n : ℕ) → (n ≡ 5 → ⊥) → (n ≡ 6 → ⊥) → (n ≡ 7 → ⊥) → (n ≡ 8 → ⊥) → (n ≡ 70 → ⊥) → IsFree n → ⊥
+not_free n five six seven eight seventy (inl e) = five e
+not_free n five six seven eight seventy (inr (inl e)) = six e
+not_free n five six seven eight seventy (inr (inr (inl e))) = seven e
+not_free n five six seven eight seventy (inr (inr (inr (inl e)))) = eight e
+not_free n five six seven eight seventy (inr (inr (inr (inr e)))) = seventy e
 
 module _ {D : Type 0} (view : D → DiskView) (secret : Secret) (command : Option Command) (before after : World D) (old new : StreamView) (status : ℕ) (run : IsRun view secret command before after old new status) where
   -- the answer decides
@@ -149,17 +153,17 @@ module _ {D : Type 0} (view : D → DiskView) (secret : Secret) (command : Optio
 
   pub refused_comes : Told view command before after (λ given. ComesWhere status 2 (IsRefused command given))
   refused_comes =
-      comes 2 (λ given. IsRefused command given) (not_free 2 (λ e. omega (arith, e)) (λ e. omega (arith, e)) (λ e. omega (arith, e)) (λ e. omega (arith, e)))
+      comes 2 (λ given. IsRefused command given) (not_free 2 (λ e. omega (arith, e)) (λ e. omega (arith, e)) (λ e. omega (arith, e)) (λ e. omega (arith, e)) (λ e. omega (arith, e)))
       (λ given has. two_is command given has.answer has.is has.status_is) (λ given h. record { answer = Err h.refusal; is = h.answer; status_is = h.status_is })
 
   pub no_data_comes : Told view command before after (λ given. ComesWhere status 3 (IsAnswer command given (Err NoData)))
   no_data_comes =
-      comes 3 (λ given. IsAnswer command given (Err NoData)) (not_free 3 (λ e. omega (arith, e)) (λ e. omega (arith, e)) (λ e. omega (arith, e)) (λ e. omega (arith, e)))
+      comes 3 (λ given. IsAnswer command given (Err NoData)) (not_free 3 (λ e. omega (arith, e)) (λ e. omega (arith, e)) (λ e. omega (arith, e)) (λ e. omega (arith, e)) (λ e. omega (arith, e)))
       (λ given has. three_is command given has.answer has.is has.status_is) (λ given h. record { answer = Err NoData; is = h; status_is = refl })
 
   pub too_large_comes : Told view command before after (λ given. ComesWhere status 4 (IsTooLarge command given))
   too_large_comes =
-      comes 4 (λ given. IsTooLarge command given) (not_free 4 (λ e. omega (arith, e)) (λ e. omega (arith, e)) (λ e. omega (arith, e)) (λ e. omega (arith, e)))
+      comes 4 (λ given. IsTooLarge command given) (not_free 4 (λ e. omega (arith, e)) (λ e. omega (arith, e)) (λ e. omega (arith, e)) (λ e. omega (arith, e)) (λ e. omega (arith, e)))
       (λ given has. four_is command given has.answer has.is has.status_is) (λ given h. record { answer = Err (TooLarge h.bytes h.limit); is = h.answer; status_is = refl })
 
   archive_status : (given : Given) → IsNoArchive command given → HasStatus command given 9
@@ -169,17 +173,17 @@ module _ {D : Type 0} (view : D → DiskView) (secret : Secret) (command : Optio
 
   pub no_archive_comes : Told view command before after (λ given. ComesWhere status 9 (IsNoArchive command given))
   no_archive_comes =
-      comes 9 (λ given. IsNoArchive command given) (not_free 9 (λ e. omega (arith, e)) (λ e. omega (arith, e)) (λ e. omega (arith, e)) (λ e. omega (arith, e)))
+      comes 9 (λ given. IsNoArchive command given) (not_free 9 (λ e. omega (arith, e)) (λ e. omega (arith, e)) (λ e. omega (arith, e)) (λ e. omega (arith, e)) (λ e. omega (arith, e)))
       (λ given has. nine_is command given has.answer has.is has.status_is) archive_status
 
   pub request_cut_comes : Told view command before after (λ given. ComesWhere status 11 (IsAnswer command given (Err RequestCut)))
   request_cut_comes =
-      comes 11 (λ given. IsAnswer command given (Err RequestCut)) (not_free 11 (λ e. omega (arith, e)) (λ e. omega (arith, e)) (λ e. omega (arith, e)) (λ e. omega (arith, e)))
+      comes 11 (λ given. IsAnswer command given (Err RequestCut)) (not_free 11 (λ e. omega (arith, e)) (λ e. omega (arith, e)) (λ e. omega (arith, e)) (λ e. omega (arith, e)) (λ e. omega (arith, e)))
       (λ given has. eleven_is command given has.answer has.is has.status_is) (λ given h. record { answer = Err RequestCut; is = h; status_is = refl })
 
   pub too_long_comes : Told view command before after (λ given. ComesWhere status 10 (IsAnswer command given (Err InputTooLong)))
   too_long_comes =
-      comes 10 (λ given. IsAnswer command given (Err InputTooLong)) (not_free 10 (λ e. omega (arith, e)) (λ e. omega (arith, e)) (λ e. omega (arith, e)) (λ e. omega (arith, e)))
+      comes 10 (λ given. IsAnswer command given (Err InputTooLong)) (not_free 10 (λ e. omega (arith, e)) (λ e. omega (arith, e)) (λ e. omega (arith, e)) (λ e. omega (arith, e)) (λ e. omega (arith, e)))
       (λ given has. ten_is command given has.answer has.is has.status_is) (λ given h. record { answer = Err InputTooLong; is = h; status_is = refl })
 
 -- what stays as it was is kept, whatever the command
@@ -189,6 +193,8 @@ kept_same (Some (show text)) old new same = same
 kept_same (Some (select w)) old new same = same
 kept_same (Some (init w)) old new same = same
 kept_same (Some (talk w)) old new same = tt
+kept_same (Some (serve w)) old new same = same
+kept_same (Some (drill w)) old new same = same
 
 unused_same : {D : Type 0} (command : Option Command) (old new : D) → new ≡ old → KeepsUnused command old new
 unused_same None old new same = same
@@ -196,6 +202,8 @@ unused_same (Some (show text)) old new same = same
 unused_same (Some (select w)) old new same = same
 unused_same (Some (init w)) old new same = tt
 unused_same (Some (talk w)) old new same = tt
+unused_same (Some (serve w)) old new same = tt
+unused_same (Some (drill w)) old new same = tt
 
 clock_same : (command : Option Command) (old new : Option (List Moment)) → new ≡ old → AsksNoClock command old new
 clock_same None old new same = same
@@ -203,6 +211,8 @@ clock_same (Some (show text)) old new same = same
 clock_same (Some (select w)) old new same = same
 clock_same (Some (init w)) old new same = same
 clock_same (Some (talk w)) old new same = tt
+clock_same (Some (serve w)) old new same = same
+clock_same (Some (drill w)) old new same = same
 
 part_rose : {D : Type 0} (view : D → DiskView) (command : Option Command) (before after : World D) → IsCutShort view command before after → Rose before.streams.sink.faults after.streams.sink.faults
 part_rose view None before after cut = cut.rose
@@ -210,6 +220,8 @@ part_rose view (Some (show text)) before after cut = cut.rose
 part_rose view (Some (select w)) before after cut = cut.rose
 part_rose view (Some (init w)) before after cut = cut.rose
 part_rose view (Some (talk w)) before after cut = cut
+part_rose view (Some (serve w)) before after cut = cut.rose
+part_rose view (Some (drill w)) before after cut = cut.rose
 
 module _ {D : Type 0} (view : D → DiskView) (secret : Secret) (command : Option Command) (before after : World D) (old new : StreamView) (status : ℕ) (run : IsRun view secret command before after old new status) where
   -- where memory ran out before the words were read the status is 70, and nothing changed
@@ -246,6 +258,18 @@ module _ {D : Type 0} (view : D → DiskView) (secret : Secret) (command : Optio
     | inr row ↦ disk_row view secret command before after run.ending row (sym run.status_is ∙ seven)
   ]
 
+  port_rose : status ≡ 8 → OneRose before.ports after.ports
+  port_rose eight = elim run.row [
+    | inl starved ↦ absurd (let e = starved_status starved in omega (arith, e, eight))
+    | inr row ↦ port_row view secret command before after run.ending row (sym run.status_is ∙ eight)
+  ]
+
+  ports : (status ≡ 70 → ⊥) → KeepsPorts command before.ports after.ports
+  ports not_short = elim run.row [
+    | inl starved ↦ absurd (not_short (starved_status starved))
+    | inr row ↦ ports_row view secret command before after run.ending row
+  ]
+
   kept : (status ≡ 0 → ⊥) → (status ≡ 6 → ⊥) → KeepsSink command before.streams.sink after.streams.sink
   kept done_not cut_not = elim run.row [
     | inl starved ↦ kept_same command before.streams.sink after.streams.sink (λ i. (starved.1 i).streams.sink)
@@ -276,6 +300,7 @@ module _ {D : Type 0} (view : D → DiskView) (secret : Secret) (command : Optio
       by (Err ReadFault) row e = absurd (omega (arith, e))
       by (Err WriteFault) row e = absurd (omega (arith, e))
       by (Err DiskFault) row e = absurd (omega (arith, e))
+      by (Err PortFault) row e = absurd (omega (arith, e))
       by (Err OutOfMemory) row e = absurd (omega (arith, e))
 
   founded : (w : InitWords) → command ≡ Some (init w) → status ≡ 0 → WhereTold (view before.disk) (HoldsNewArchive (view after.disk) w)
@@ -284,8 +309,21 @@ module _ {D : Type 0} (view : D → DiskView) (secret : Secret) (command : Optio
     | inr row ↦ founded_row view secret w command before after run.ending row is (sym run.status_is ∙ zero)
   ]
 
+  drilled : (w : DrillWords) → command ≡ Some (drill w) → (status ≡ 0) ⊎ (status ≡ 6) → WhereTold (view before.disk) (HoldsHistory (view after.disk) (made_history w.records))
+  drilled w is at = elim run.row [
+    | inl starved ↦ absurd (let e = starved_status starved in elim at [ inl zero ↦ omega (arith, e, zero) | inr six ↦ omega (arith, e, six) ])
+    | inr row ↦ drilled_row view secret w command before after run.ending row is (elim at [ inl zero ↦ inl (sym run.status_is ∙ zero) | inr six ↦ inr (sym run.status_is ∙ six) ])
+  ]
+
   talked : (w : TalkWords) → command ≡ Some (talk w) → HasEndedTalk view secret w before after status
   talked w is = record {
+    ending = run.ending;
+    status_is = run.status_is;
+    row = elim run.row [ inl starved ↦ inl starved | inr row ↦ inr (subst (λ (c : Option Command). IsEnding view secret c before after run.ending) is row) ];
+  }
+
+  served : (w : ServeWords) → command ≡ Some (serve w) → HasEndedServe view secret w before after status
+  served w is = record {
     ending = run.ending;
     status_is = run.status_is;
     row = elim run.row [ inl starved ↦ inl starved | inr row ↦ inr (subst (λ (c : Option Command). IsEnding view secret c before after run.ending) is row) ];
@@ -302,12 +340,13 @@ module _ {D : Type 0} (view : D → DiskView) (secret : Secret) (command : Optio
       by (Err stop) row e = nine_row view secret command before after stop row e
 
   completes : Told view command before after (λ given. IsComplete view command given before after old new status)
-  completes = λ given e unread unwritten undamaged answer is.
+  completes = λ given e unread unwritten undamaged unbroken answer is.
       elim (settles view secret command before after old new status run given e answer is) [
         | inl (inl five) ↦ absurd (unread (read_rose five))
         | inl (inr (inl six)) ↦ absurd (unwritten (part_rose view command before after (cut_short six)))
         | inl (inr (inr (inl seven))) ↦ absurd (undamaged (disk_rose seven))
-        | inl (inr (inr (inr seventy))) ↦ inl seventy
+        | inl (inr (inr (inr (inl eight)))) ↦ absurd (unbroken (port_rose eight))
+        | inl (inr (inr (inr (inr seventy)))) ↦ inl seventy
         | inr ends ↦ inr ends
       ]
 
@@ -318,9 +357,12 @@ module _ {D : Type 0} (view : D → DiskView) (secret : Secret) (command : Optio
     kept = kept;
     unused = unused;
     clock = clock;
+    ports = ports;
     written = done_written;
     founded = founded;
+    drilled = drilled;
     talked = talked;
+    served = served;
     unknown = unknown;
     refused = refused_comes view secret command before after old new status run;
     no_data = no_data_comes view secret command before after old new status run;
@@ -328,6 +370,7 @@ module _ {D : Type 0} (view : D → DiskView) (secret : Secret) (command : Optio
     read_fault = read_rose;
     write_fault = cut_short;
     disk_fault = disk_rose;
+    port_fault = port_rose;
     no_archive = no_archive_comes view secret command before after old new status run;
     untouched = untouched;
     too_long = too_long_comes view secret command before after old new status run;

@@ -22,7 +22,7 @@ use Rattle.dataselect.proofs.Held.{held_more, length_with}
 use Rattle.centre.specs.Limits.{most_input}
 use Rattle.centre.specs.declared.ending.Refusal.TheVariants.{UnknownCommand, Value, Order, Record, NoData, TooLarge, InputTooLong, NotEmpty, NotAJournal, Damaged, RequestCut}
 use Rattle.centre.specs.declared.ending.Stop.{Stop}
-use Rattle.centre.specs.declared.ending.Stop.TheVariants.{Refused, ReadFault, WriteFault, DiskFault, OutOfMemory}
+use Rattle.centre.specs.declared.ending.Stop.TheVariants.{Refused, ReadFault, WriteFault, DiskFault, PortFault, OutOfMemory}
 use Rattle.centre.specs.Answers.{epoch}
 use Rattle.centre.specs.Intake.{AreAsked, IsShelved, Passes, IsCutTo, IsRestRefused, HasTaken, IntakeStops, with_asked}
 use Rattle.centre.proofs.Inputs.{had_all, had_more}
@@ -190,6 +190,7 @@ taken_bad query old new total rest place fault held (Refused NotAJournal) end ba
 taken_bad query old new total rest place fault held (Refused (Damaged at)) end bad far = absurd bad
 taken_bad query old new total rest place fault held (Refused RequestCut) end bad far = absurd bad
 taken_bad query old new total rest place fault held DiskFault end bad far = absurd bad
+taken_bad query old new total rest place fault held PortFault end bad far = absurd bad
 taken_bad query old new total rest place fault held ReadFault end bad far = absurd bad
 taken_bad query old new total rest place fault held WriteFault end bad far = absurd bad
 taken_bad query old new total rest place fault held OutOfMemory end bad far = absurd bad

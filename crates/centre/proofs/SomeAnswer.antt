@@ -29,11 +29,13 @@ use Rattle.centre.specs.declared.ending.Word.TheVariants as word
 use Rattle.centre.specs.declared.ending.Refusal.{Refusal}
 use Rattle.centre.specs.declared.ending.Refusal.TheVariants.{UnknownCommand, Value, Order, Record, NoData, TooLarge, InputTooLong, NotEmpty}
 use Rattle.epochs.specs.Kinds.{Text}
+use Rattle.centre.proofs.OneService.{some_service}
 use Rattle.centre.proofs.OneTalk.{some_talk, some_refusal}
 use Rattle.centre.specs.Talks.{OpensOrNot, EndsWith, IsTalkAnswer}
 use Rattle.centre_session.specs.Items.{Ending}
 use Rattle.centre.specs.Answers.{IsSelectAnswer, IsAnswer, IsReadThrough, places_for, body_for, epoch}
-use Rattle.command_words.specs.Commands.{SelectWords, Command, select, init, talk, show}
+use Rattle.command_words.specs.Commands.{SelectWords, Command, select, init, talk, serve, drill, show}
+use Rattle.centre.specs.Drills.{drill_text}
 use Rattle.centre.specs.Given.{Given}
 use Rattle.centre.specs.Shown.{text_shown}
 use Rattle.centre.specs.Limits.{most_input}
@@ -200,3 +202,5 @@ some_answer (Some (show shown)) given octets through = (Ok (text_shown shown), r
 some_answer (Some (select w)) given octets through = some_select w given.input (cut_up given.input octets)
 some_answer (Some (init w)) given octets through = elim (empty_or_not given.file) [ inl none ↦ (Ok [], (none, refl)) | inr some ↦ (Err NotEmpty, some) ]
 some_answer (Some (talk w)) given octets through = by_talk given through.0 through.1
+some_answer (Some (serve w)) given octets through = some_service given.file through
+some_answer (Some (drill w)) given octets through = elim (empty_or_not given.file) [ inl none ↦ (Ok (drill_text w.records), (none, refl)) | inr some ↦ (Err NotEmpty, some) ]

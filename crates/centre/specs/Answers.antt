@@ -9,8 +9,10 @@ use Rattle.dataselect.specs.Rows.{held_rows}
 use Rattle.dataselect.specs.DataBody.{data_body}
 use Rattle.dataselect.specs.Picked.{picked_places}
 use Rattle.centre.specs.Limits.{most_input}
-use Rattle.command_words.specs.Commands.{SelectWords, Command, select, init, talk, show}
+use Rattle.command_words.specs.Commands.{SelectWords, Command, select, init, talk, serve, drill, show}
+use Rattle.centre.specs.Drills.{IsDrillAnswer}
 use Rattle.centre.specs.Given.{Given}
+use Rattle.centre.specs.Serves.{IsServeAnswer}
 use Rattle.centre.specs.Shown.{text_shown}
 use Rattle.centre.specs.Talks.{IsTalkAnswer, OpensOrNot, EndsWith}
 use Rattle.centre_session.specs.Items.{Ending}
@@ -103,9 +105,12 @@ IsAnswer (Some (show shown)) given answer = answer ≡ Ok (text_shown shown)
 IsAnswer (Some (select w)) given answer = IsSelectAnswer w given.input answer
 IsAnswer (Some (init w)) given answer = IsInitAnswer given.file answer
 IsAnswer (Some (talk w)) given answer = IsTalkAnswer given.file given.input answer
+IsAnswer (Some (serve w)) given answer = IsServeAnswer given.file answer
+IsAnswer (Some (drill w)) given answer = IsDrillAnswer w.records given.file answer
 
--- A session that `talk` read through: the file opens with a history or has its fault, and what was read is a session that
--- ends. The other commands read whatever there is.
+-- What is read through: of `talk` and `serve` the file opens with a history or has its fault, and of `talk` what was read is a
+-- session that ends. The other commands read whatever there is.
 abbrev pub IsReadThrough : Option Command → Given → Type 0
+IsReadThrough (Some (serve w)) given = OpensOrNot given.file
 IsReadThrough (Some (talk w)) given = OpensOrNot given.file × ((ending : Ending) × EndsWith given.input ending)
 IsReadThrough _ given = ⊤

@@ -4,9 +4,10 @@ use Rattle.std.specs.Io.KnownBytes.{Consumes}
 use Rattle.exact_time.specs.declared.moment.Moment.{Moment}
 use Rattle.http_wire.specs.declared.turn.Turn.{Turn}
 use Rattle.disk_model.specs.View.{DiskView, WhereTold}
+use Rattle.link_ports.specs.Ports.{PortView}
 use Rattle.streams.specs.View.{StreamView}
 use Rattle.centre_talk.specs.Talk.{Place, place}
-use Rattle.command_words.specs.Commands.{Command, select, init, talk}
+use Rattle.command_words.specs.Commands.{Command, select, init, talk, serve, drill}
 use Rattle.centre.specs.Had.{Had}
 
 -- what is told of the source and the sink at one moment
@@ -17,16 +18,17 @@ pub record Streams : Type 0 where
 abbrev pub streams : StreamView → StreamView → Streams
 streams source sink = record { source = source; sink = sink }
 
--- all that a run can reach: the source and the sink, the disk, and the moments that the clock gave; and the turns that it
--- hands back
+-- all that a run can reach: the source and the sink, the disk, the moments that the clock gave, and the ports of the workers,
+-- in their order; and the turns that it hands back
 pub record World (D : Type 0) : Type 0 where
   pub streams : Streams
   pub disk : D
   pub given : Option (List Moment)
   pub trail : Option (List Turn)
+  pub ports : List PortView
 
-abbrev pub world : {D : Type 0} → StreamView → StreamView → D → Option (List Moment) → Option (List Turn) → World D
-world source sink disk given trail = record { streams = streams source sink; disk = disk; given = given; trail = trail }
+abbrev pub world : {D : Type 0} → StreamView → StreamView → D → Option (List Moment) → Option (List Turn) → List PortView → World D
+world source sink disk given trail ports = record { streams = streams source sink; disk = disk; given = given; trail = trail; ports = ports }
 
 -- the same as a session over streams knows it
 abbrev pub place_at : {D : Type 0} → (D → DiskView) → World D → Place
@@ -41,11 +43,13 @@ pub record Given : Type 0 where
 abbrev pub IsFile : DiskView → List ℕ → Type 0
 IsFile view file = (view.tells ≡ true) × (view.content ≡ file)
 
--- What the command reads tells that it held this. `select` reads the source to its end, `init` the disk, `talk` both, and
--- the others nothing.
+-- What the command reads tells that it held this. `select` reads the source to its end, `init`, `drill` and `serve` the
+-- disk, `talk` both, and the others nothing.
 abbrev pub AreGiven : {D : Type 0} → (D → DiskView) → Option Command → World D → World D → Given → Type 0
 AreGiven view (Some (select w)) before after given = before.streams.source.left ≡ Some given.input
 AreGiven view (Some (init w)) before after given = IsFile (view before.disk) given.file
+AreGiven view (Some (serve w)) before after given = IsFile (view before.disk) given.file
+AreGiven view (Some (drill w)) before after given = IsFile (view before.disk) given.file
 AreGiven view (Some (talk w)) before after given =
     IsFile (view before.disk) given.file × IsSome before.streams.source.left × Consumes before.streams.source.left after.streams.source.left given.input
 AreGiven view _ before after given = ⊤
@@ -54,6 +58,7 @@ AreGiven view _ before after given = ⊤
 abbrev pub HadGiven : {D : Type 0} → (D → DiskView) → Option Command → World D → Given → Type 0
 HadGiven view (Some (select w)) before given = Had before.streams.source.left given.input
 HadGiven view (Some (init w)) before given = WhereTold (view before.disk) ((view before.disk).content ≡ given.file)
+HadGiven view (Some (drill w)) before given = WhereTold (view before.disk) ((view before.disk).content ≡ given.file)
 HadGiven view _ before given = ⊤
 
 -- a fact of what the command reads, where that is told

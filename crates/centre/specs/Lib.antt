@@ -1,9 +1,11 @@
 pub mod Answers
+pub mod Drills
 pub mod Given
 pub mod Had
 pub mod Intake
 pub mod Limits
 pub mod Outside
+pub mod Serves
 pub mod Settled
 pub mod Shown
 pub mod Status

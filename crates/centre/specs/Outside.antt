@@ -1,9 +1,9 @@
 -- Which objects of the outside a command needs.
 use Rattle.std.specs.Prelude.{◌≡◌, Bool, List, ℕ, Option, None, Some, true, false}
-use Rattle.command_words.specs.Commands.{Command, init, talk}
-use Rattle.centre.specs.declared.outside.Outside.{Outside}
+use Rattle.command_words.specs.Commands.{ServeWords, Command, init, talk, serve, drill}
+use Rattle.centre.specs.declared.objects.Outside.{Outside}
 
--- no second file, no address, and one worker
+-- no address, and one worker without an end
 pub record HasNoMore (outside : Outside) : Type 0 where
   pub second : outside.second ≡ None
   pub address : outside.address ≡ None
@@ -16,8 +16,20 @@ pub record NamesJournal (outside : Outside) (journal : Option (List ℕ)) (may_m
   pub may_make_is : outside.may_make ≡ may_make
   pub no_more : HasNoMore outside
 
--- `init` makes the file that it is given, `talk` opens the one that it is given; the other commands use no archive
+-- the file of an archive that is there, the address, the workers and their sessions
+pub record NamesService (outside : Outside) (w : ServeWords) : Type 0 where
+  pub journal_is : outside.journal ≡ Some w.journal
+  pub may_make_is : outside.may_make ≡ false
+  pub second : outside.second ≡ None
+  pub address : outside.address ≡ Some w.address
+  pub workers : outside.workers ≡ w.workers
+  pub sessions : outside.sessions ≡ w.sessions
+
+-- `init` and `drill` make the file that they are given, `talk` and `serve` open the one that they are given; the other
+-- commands use no archive
 abbrev pub IsOutside : Option Command → Outside → Type 0
 IsOutside (Some (init w)) outside = NamesJournal outside (Some w.journal) true
+IsOutside (Some (drill w)) outside = NamesJournal outside (Some w.journal) true
 IsOutside (Some (talk w)) outside = NamesJournal outside (Some w.journal) false
+IsOutside (Some (serve w)) outside = NamesService outside w
 IsOutside _ outside = NamesJournal outside None false

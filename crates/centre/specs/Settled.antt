@@ -10,18 +10,24 @@ use Rattle.exact_time.specs.declared.moment.Moment.{Moment}
 use Rattle.centre.specs.declared.ending.Refusal.{Refusal}
 use Rattle.centre.specs.declared.ending.Refusal.TheVariants.{NoData, TooLarge, NotEmpty, InputTooLong, NotAJournal, Damaged, RequestCut}
 use Rattle.centre.specs.Answers.{IsAnswer}
-use Rattle.command_words.specs.Commands.{InitWords, TalkWords, Command, init, talk}
+use Rattle.command_words.specs.Commands.{InitWords, TalkWords, ServeWords, DrillWords, Command, init, talk, serve, drill}
+use Rattle.centre_drill.specs.Drill.{HoldsHistory}
+use Rattle.centre_drill.specs.History.{made_history}
 use Rattle.centre.specs.Given.{World, Given, HadGiven, Told}
 use Rattle.centre.specs.Status.{status_of_refusal, text_of_refusal, status_of_run}
 use Rattle.streams.specs.Effects.{Grew, WritesPart}
 use Rattle.streams.specs.View.{StreamView}
 use Rattle.centre.specs.Table.{Tells, IsStarved}
+use Rattle.centre_serve.specs.Whole.{OneRose}
+use Rattle.link_ports.specs.Ports.{PortView}
+use Rattle.centre.specs.Serves.{ServeEnding}
 use Rattle.centre.specs.Talks.{TalkEnding}
 use Rattle.centre.specs.declared.ending.Stop.{Stop}
 
--- the statuses that these don't determine: a fault of the source, the sink or the disk, want of memory
+-- the statuses that these don't determine: a fault of the source, the sink, the disk or a port, want of
+-- memory
 abbrev pub IsFree : ℕ → Type 0
-IsFree status = (status ≡ 5) ⊎ (status ≡ 6) ⊎ (status ≡ 7) ⊎ (status ≡ 70)
+IsFree status = (status ≡ 5) ⊎ (status ≡ 6) ⊎ (status ≡ 7) ⊎ (status ≡ 8) ⊎ (status ≡ 70)
 
 -- The status comes exactly where the cause holds: only there, and always there, unless the run stopped
 -- at a fault or for want of memory.
@@ -49,11 +55,11 @@ abbrev pub IsSettled : Option Command → Given → StreamView → StreamView �
 IsSettled command given old new status =
     (answer : Result (List ℕ) Refusal) → IsAnswer command given answer → IsFree status ⊎ EndsAs answer old new status
 
--- Where neither the source, the sink nor the disk failed, the run ended as the answer says, unless memory ran out.
+-- Where neither the source, the sink, the disk nor a port failed, the run ended as the answer says, unless memory ran out.
 abbrev pub IsComplete : {D : Type 0} → (D → DiskView) → Option Command → Given → World D → World D → StreamView → StreamView → ℕ → Type 0
 IsComplete view command given before after old new status =
     ¬ (Rose before.streams.source.faults after.streams.source.faults) → ¬ (Rose before.streams.sink.faults after.streams.sink.faults)
-    → ¬ (Rose (view before.disk).faults (view after.disk).faults)
+    → ¬ (Rose (view before.disk).faults (view after.disk).faults) → ¬ (OneRose before.ports after.ports)
     → (answer : Result (List ℕ) Refusal) → IsAnswer command given answer → (status ≡ 70) ⊎ EndsAs answer old new status
 
 -- the sink got what the command answers to what it read
@@ -64,9 +70,10 @@ pub record GotAnswer {D : Type 0} (view : D → DiskView) (command : Option Comm
   pub answer : IsAnswer command given (Ok body)
   pub output : Grew before.streams.sink.written after.streams.sink.written body
 
--- status 0: the sink got the answer; what `talk` wrote is said by its session
+-- status 0: the sink got the answer; what `talk` wrote is said by its session, and `serve` writes nothing on it
 abbrev pub HasWritten : {D : Type 0} → (D → DiskView) → Option Command → World D → World D → Type 0
 HasWritten view (Some (talk w)) before after = ⊤
+HasWritten view (Some (serve w)) before after = after.streams.sink ≡ before.streams.sink
 HasWritten view command before after = GotAnswer view command before after
 
 -- a word of the query, the order of its times or a record of the input is refused
@@ -115,12 +122,19 @@ pub record KeepsFile (old new : DiskView) : Type 0 where
 abbrev pub KeepsUnused : {D : Type 0} → Option Command → D → D → Type 0
 KeepsUnused (Some (init w)) old new = ⊤
 KeepsUnused (Some (talk w)) old new = ⊤
+KeepsUnused (Some (serve w)) old new = ⊤
+KeepsUnused (Some (drill w)) old new = ⊤
 KeepsUnused _ old new = new ≡ old
 
 -- and `talk` alone asks the clock
 abbrev pub AsksNoClock : Option Command → Option (List Moment) → Option (List Moment) → Type 0
 AsksNoClock (Some (talk w)) old new = ⊤
 AsksNoClock _ old new = new ≡ old
+
+-- with every status but 70 no command but `serve` asks a port, and all ports come back
+abbrev pub KeepsPorts : Option Command → List PortView → List PortView → Type 0
+KeepsPorts (Some (serve w)) old new = ⊤
+KeepsPorts _ old new = new ≡ old
 
 -- with every status but 0 and 6 the sink is as before, unless the command is `talk`
 abbrev pub KeepsSink : Option Command → StreamView → StreamView → Type 0
@@ -138,10 +152,16 @@ pub record HasEndedTalk {D : Type 0} (view : D → DiskView) (secret : Secret) (
   pub status_is : status ≡ status_of_run ending
   pub row : IsStarved before after ending ⊎ TalkEnding view secret w before after ending
 
+-- `serve` ended so: a service over the archive of the disk and the ports, or none for its cause
+pub record HasEndedServe {D : Type 0} (view : D → DiskView) (secret : Secret) (w : ServeWords) (before after : World D) (status : ℕ) : Type 0 where
+  pub ending : Result (Unit {0}) Stop
+  pub status_is : status ≡ status_of_run ending
+  pub row : IsStarved before after ending ⊎ ServeEnding view secret w before after ending
+
 -- What a reader looks for in a run, row by row.
 pub record RunRows {D : Type 0} (view : D → DiskView) (secret : Secret) (command : Option Command) (before after : World D) (old new : StreamView) (status : ℕ) : Type 0 where
-  -- what the words and what is read determine is what comes, with its text, unless the source, the sink or the disk failed
-  -- or memory ran out; and where none of them failed, unless memory ran out
+  -- what the words and what is read determine is what comes, with its text, unless the source, the sink, the disk or a port
+  -- failed or memory ran out; and where none of them failed, unless memory ran out
   pub settled : Told view command before after (λ given. IsSettled command given old new status)
   pub complete : Told view command before after (λ given. IsComplete view command given before after old new status)
   -- with every status but 0 and 6 the sink is as before, unless the command is `talk`; what a command doesn't use stays as
@@ -149,11 +169,16 @@ pub record RunRows {D : Type 0} (view : D → DiskView) (secret : Secret) (comma
   pub kept : status ≢ 0 → status ≢ 6 → KeepsSink command before.streams.sink after.streams.sink
   pub unused : KeepsUnused command before.disk after.disk
   pub clock : AsksNoClock command before.given after.given
+  pub ports : status ≢ 70 → KeepsPorts command before.ports after.ports
   -- status 0: the sink got the answer; `init` left the new archive on the disk
   pub written : status ≡ 0 → HasWritten view command before after
   pub founded : (w : InitWords) → command ≡ Some (init w) → status ≡ 0 → WhereTold (view before.disk) (HoldsNewArchive (view after.disk) w)
+  -- `drill`, also where the sink failed: the archive of made records is on the disk
+  pub drilled : (w : DrillWords) → command ≡ Some (drill w) → (status ≡ 0) ⊎ (status ≡ 6) → WhereTold (view before.disk) (HoldsHistory (view after.disk) (made_history w.records))
   -- `talk`, with whatever status
   pub talked : (w : TalkWords) → command ≡ Some (talk w) → HasEndedTalk view secret w before after status
+  -- `serve`, with whatever status
+  pub served : (w : ServeWords) → command ≡ Some (serve w) → HasEndedServe view secret w before after status
   -- each other status, and its cause
   pub unknown : IsUnknown command status
   pub refused : Told view command before after (λ given. ComesWhere status 2 (IsRefused command given))
@@ -162,6 +187,7 @@ pub record RunRows {D : Type 0} (view : D → DiskView) (secret : Secret) (comma
   pub read_fault : status ≡ 5 → Rose before.streams.source.faults after.streams.source.faults
   pub write_fault : status ≡ 6 → IsCutShort view command before after
   pub disk_fault : status ≡ 7 → Rose (view before.disk).faults (view after.disk).faults
+  pub port_fault : status ≡ 8 → OneRose before.ports after.ports
   pub no_archive : Told view command before after (λ given. ComesWhere status 9 (IsNoArchive command given))
   pub untouched : status ≡ 9 → WhereTold (view before.disk) (KeepsFile (view before.disk) (view after.disk))
   pub too_long : Told view command before after (λ given. ComesWhere status 10 (IsAnswer command given (Err InputTooLong)))

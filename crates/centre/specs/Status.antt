@@ -2,12 +2,16 @@
 use Rattle.std.specs.Prelude.{ℕ, List, [], ◌++◌, codes, Result, Ok, Err}
 use Rattle.std.specs.Fmt.{decimal}
 use Rattle.mseed_header.specs.FaultNames.{record_fault_name}
+use Rattle.centre_desk.specs.Faults.{fault_text}
+use Rattle.centre_desk.specs.declared.fault.Fault.{Fault}
+use Rattle.centre_desk.specs.declared.fault.Fault.TheVariants as fault
+use Rattle.query_parameters.specs.declared.fault.QueryFault.TheVariants as query
 use Rattle.centre.specs.declared.ending.Word.{Word}
 use Rattle.centre.specs.declared.ending.Word.TheVariants.{Network, Station, Location, Channel, Start, End, Quality, Minimum, Longest}
 use Rattle.centre.specs.declared.ending.Refusal.{Refusal}
 use Rattle.centre.specs.declared.ending.Refusal.TheVariants.{UnknownCommand, Value, Order, Record, NoData, TooLarge, InputTooLong, NotEmpty, NotAJournal, Damaged, RequestCut}
 use Rattle.centre.specs.declared.ending.Stop.{Stop}
-use Rattle.centre.specs.declared.ending.Stop.TheVariants.{Refused, ReadFault, WriteFault, DiskFault, OutOfMemory}
+use Rattle.centre.specs.declared.ending.Stop.TheVariants.{Refused, ReadFault, WriteFault, DiskFault, PortFault, OutOfMemory}
 
 abbrev pub status_of_refusal : Refusal → ℕ
 status_of_refusal UnknownCommand = 1
@@ -27,6 +31,7 @@ status_of (Refused refusal) = status_of_refusal refusal
 status_of ReadFault = 5
 status_of WriteFault = 6
 status_of DiskFault = 7
+status_of PortFault = 8
 status_of OutOfMemory = 70
 
 abbrev pub status_of_run : Result (Unit {0}) Stop → ℕ
@@ -45,13 +50,17 @@ name_of_word Quality = codes "QUALITY"
 name_of_word Minimum = codes "MINIMUM"
 name_of_word Longest = codes "LONGEST"
 
+-- what a reply over HTTP tells of a fault, in the words of a command
+abbrev pub text_of_fault : Fault → List ℕ
+text_of_fault f = codes "centre: " ++ fault_text f ++ codes "\n"
+
 abbrev pub text_of_refusal : Refusal → List ℕ
 text_of_refusal UnknownCommand = codes "centre: unknown command line\n"
 text_of_refusal (Value word) = codes "centre: query: Value " ++ name_of_word word ++ codes "\n"
-text_of_refusal Order = codes "centre: query: Order\n"
+text_of_refusal Order = text_of_fault (fault.Query query.Order)
 text_of_refusal (Record at fault) = codes "centre: record at offset " ++ decimal at ++ codes ": " ++ record_fault_name fault ++ codes "\n"
-text_of_refusal NoData = codes "centre: no data\n"
-text_of_refusal (TooLarge bytes limit) = codes "centre: " ++ decimal bytes ++ codes " bytes exceed " ++ decimal limit ++ codes "\n"
+text_of_refusal NoData = text_of_fault fault.NoData
+text_of_refusal (TooLarge bytes limit) = text_of_fault (fault.ManyBytes bytes limit)
 text_of_refusal NotEmpty = codes "centre: journal is not empty\n"
 text_of_refusal NotAJournal = codes "centre: not a journal\n"
 text_of_refusal (Damaged at) = codes "centre: journal damaged at " ++ decimal at ++ codes "\n"
@@ -63,6 +72,7 @@ error_text_of (Refused refusal) = text_of_refusal refusal
 error_text_of ReadFault = codes "centre: read fault\n"
 error_text_of WriteFault = codes "centre: write fault\n"
 error_text_of DiskFault = codes "centre: disk fault\n"
+error_text_of PortFault = codes "centre: port fault\n"
 error_text_of OutOfMemory = codes "centre: out of memory\n"
 
 abbrev pub text_of_run : Result (Unit {0}) Stop → List ℕ

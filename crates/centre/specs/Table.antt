@@ -1,15 +1,16 @@
 -- The table of endings: when each status comes, and what it leaves.
-use Rattle.std.specs.Prelude.{◌≡◌, ◌⊎◌, ℕ, List, Option, Some, None, Result, Ok, Err, IsErrOf}
+use Rattle.std.specs.Prelude.{◌≡◌, ◌⊎◌, ℕ, List, [], Option, Some, None, Result, Ok, Err, IsErrOf}
 use Rattle.std.specs.Io.KnownBytes.{IsAtEnd}
 use Rattle.exact_time.specs.Causes.{Rose}
 use Rattle.dataselect.specs.declared.query.DataQuery.{DataQuery}
 use Rattle.centre.specs.declared.ending.Refusal.{Refusal}
 use Rattle.centre.specs.declared.ending.Refusal.TheVariants.{UnknownCommand, Record, TooLarge, NotEmpty, Damaged}
 use Rattle.centre.specs.declared.ending.Stop.{Stop}
-use Rattle.centre.specs.declared.ending.Stop.TheVariants.{Refused, ReadFault, WriteFault, DiskFault, OutOfMemory}
+use Rattle.centre.specs.declared.ending.Stop.TheVariants.{Refused, ReadFault, WriteFault, DiskFault, PortFault, OutOfMemory}
 use Rattle.centre.specs.Answers.{RefusesInput, IsSelectAnswer}
 use Rattle.http_digest.specs.declared.secret.Secret.{Secret}
-use Rattle.command_words.specs.Commands.{SelectWords, InitWords, Command, select, init, talk, show}
+use Rattle.command_words.specs.Commands.{SelectWords, InitWords, Command, select, init, talk, serve, drill, show}
+use Rattle.centre.specs.Drills.{DrillEnding}
 use Rattle.centre.specs.Given.{Streams, World}
 use Rattle.centre.specs.Shown.{text_shown}
 use Rattle.centre.specs.Status.{status_of_run, text_of_run}
@@ -21,6 +22,7 @@ use Rattle.archive_state.specs.Lawful.{founding_entry}
 use Rattle.archive_log.specs.Founding.{MakesArchive}
 use Rattle.archive_log.specs.declared.fault.FoundFault.{FoundFault}
 use Rattle.archive_log.specs.declared.fault.FoundFault.TheVariants as found
+use Rattle.centre.specs.Serves.{ServeEnding}
 use Rattle.centre.specs.Talks.{TalkEnding}
 use Rattle.centre.specs.Words.{IsSelectQuery, RefusesSelectWords}
 
@@ -72,6 +74,7 @@ SelectRow w before after (Err (Refused refusal)) =
 SelectRow w before after (Err ReadFault) = IsReadStopped w before after
 SelectRow w before after (Err WriteFault) = IsWriteStopped w before after
 SelectRow w before after (Err DiskFault) = ⊥
+SelectRow w before after (Err PortFault) = ⊥
 SelectRow w before after (Err OutOfMemory) = after.sink ≡ before.sink
 
 -- a text is shown: nothing is read, and the sink got the text
@@ -126,6 +129,8 @@ IsEnding view secret (Some (select w)) before after ending =
     SelectRow w before.streams after.streams ending × (after ≡ record before { streams = after.streams })
 IsEnding view secret (Some (init w)) before after ending = InitRow view w before after ending
 IsEnding view secret (Some (talk w)) before after ending = TalkEnding view secret w before after ending
+IsEnding view secret (Some (serve w)) before after ending = ServeEnding view secret w before after ending
+IsEnding view secret (Some (drill w)) before after ending = DrillEnding view w before after ending
 
 -- What a stop is told as: itself, or want of memory where a text with numbers can't be made.
 abbrev pub ToldFor : Stop → Stop → Type 0
@@ -139,9 +144,10 @@ pub record Tells (old new : StreamView) (text : List ℕ) : Type 0 where
   pub part : WritesPart old.written new.written text
   pub whole : Grew old.written new.written text ⊎ Rose old.faults new.faults
 
--- memory ran out before the words were read: nothing was used
+-- Memory ran out before the words were read: nothing was used. Where there was no room for them, the ports don't come back.
 abbrev pub IsStarved : {D : Type 0} → World D → World D → Result (Unit {0}) Stop → Type 0
-IsStarved before after ending = (ending ≡ Err OutOfMemory) × (after ≡ before)
+IsStarved before after ending =
+    (ending ≡ Err OutOfMemory) × (after ≡ record before { ports = after.ports }) × ((after.ports ≡ before.ports) ⊎ (after.ports ≡ []))
 
 -- a run from one moment to another with this status, and what it writes on the errors
 pub record IsRun {D : Type 0} (view : D → DiskView) (secret : Secret) (command : Option Command) (before after : World D) (old new : StreamView) (status : ℕ) : Type 0 where

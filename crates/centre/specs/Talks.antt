@@ -55,10 +55,12 @@ stop_for_talk talk.RequestCut = Refused RequestCut
 stop_for_talk talk.NotAJournal = Refused NotAJournal
 stop_for_talk (talk.Damaged at) = Refused (Damaged at)
 
--- What `talk` does, with this outcome: a session over the source and the sink under the limits that the words give.
+-- What `talk` does, with this outcome: a session over the source and the sink under the limits that the words give. No port is
+-- asked.
 pub record IsTalk {D : Type 0} (view : D → DiskView) (secret : Secret) (w : TalkWords) (before after : World D) (outcome : Result (Unit {0}) TalkStop) : Type 0 where
   pub limits : Limits
   pub limits_are : limits_at limits ≡ w.limits
+  pub ports : after.ports ≡ before.ports
   pub row : TalkRow (setting secret limits) (place_at view before) (place_at view after) after.trail outcome
 
 -- the rows of `talk`

@@ -53,6 +53,8 @@ pub enum Stop {
     WriteFault,
     /// The disk failed.
     DiskFault,
+    /// The port of a worker failed.
+    PortFault,
     OutOfMemory,
 }
 
@@ -89,6 +91,7 @@ impl Stop {
             Stop::ReadFault => 5,
             Stop::WriteFault => 6,
             Stop::DiskFault => 7,
+            Stop::PortFault => 8,
             Stop::OutOfMemory => 70,
         }
     }

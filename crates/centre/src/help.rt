@@ -11,6 +11,8 @@ fn help_of(command: CommandName) -> &'static str
         CommandName::Select => SELECT_HELP,
         CommandName::Init => INIT_HELP,
         CommandName::Talk => TALK_HELP,
+        CommandName::Serve => SERVE_HELP,
+        CommandName::Drill => DRILL_HELP,
     }
 }
 
@@ -39,6 +41,11 @@ Usage:
   velkatsa init --help
   velkatsa talk --journal F [OPTIONS]
   velkatsa talk --help
+  velkatsa serve --journal F --listen A:P [OPTIONS]
+  velkatsa serve --help
+
+  velkatsa drill N --journal F
+  velkatsa drill --help
   velkatsa --help
   velkatsa --version
 
@@ -52,6 +59,14 @@ what its words are, with an example.
 talk serves one HTTP connection over standard input and output on an archive:
 the FDSN web services dataselect, station, event and availability, and its
 feeds. `velkatsa talk --help` says how, with an example.
+
+serve serves HTTP connections at an address on an archive, with several workers
+if wanted. `velkatsa serve --help` says how, with an example.
+
+
+
+drill makes an archive of made records in a file, by which a machine can be
+measured, and prints five figures of it. `velkatsa drill --help` says more.
 
 An option is --NAME VALUE or --NAME=VALUE, in any place behind the command, and
 once at most. A value that begins with a hyphen is written --NAME=VALUE.
@@ -103,6 +118,98 @@ run it again.
 An example:
   ./velkatsa init --journal archive.journal --operator op \\
       --ha1 \"$(printf 'op:FDSN:password' | md5sum | cut -c 1-32)\"
+";
+
+/// What `serve --help` shows: the words of that command.
+pub const SERVE_HELP: &str = "\
+Usage:
+  velkatsa serve --journal F --listen A:P [OPTIONS]
+
+Opens the archive whose journal is the file F and serves HTTP/1.1 at the address
+A and the port P: the FDSN web services dataselect, station and event in text
+and availability, and feeds by which observatories post records and operators
+revise the catalog. Who may post is said by the users of the archive, and HTTP
+Digest says who asks (realm FDSN, RFC 2617).
+
+  --journal F        the path of the file, as `velkatsa init` made it. Nothing
+                     else may write it meanwhile
+  --listen A:P       where the first worker listens, as 127.0.0.1:8080,
+                     [::1]:8080 or localhost:8080. The next one listens at
+                     port P + 1, and so on
+  --workers N        how many workers there are, 1 to 16; the default is 1.
+                     A worker serves one connection at a time, to its end
+  --sessions N       each worker ends behind so many connections, 1 to
+                     1000000000000000000; without it, it goes on
+  --max-bytes N      the most bytes of an answer of records, 1 to 67108864
+  --max-lines N      the most lines of an answer of text, 1 to 100000
+  --max-records N    the most records of the archive, 1 to 2097152
+  --max-archive N    the most bytes of all that was posted, 1 to 536870912
+
+The paths. Where there is POST, its body has parameters and selections, a line
+each; a user is asked for at those that end in auth, and at the last two, which
+take the next number of that user as seq=N:
+
+  /fdsnws/dataselect/1/query           GET, POST
+  /fdsnws/dataselect/1/queryauth       GET, POST
+  /fdsnws/availability/1/query         GET, POST
+  /fdsnws/availability/1/extent        GET, POST
+  /fdsnws/availability/1/queryauth     GET, POST
+  /fdsnws/availability/1/extentauth    GET, POST
+  /fdsnws/station/1/query              GET, POST
+  /fdsnws/event/1/query                GET
+  /fdsnws/dataselect/1/version         GET
+  /fdsnws/availability/1/version       GET
+  /fdsnws/station/1/version            GET
+  /fdsnws/event/1/version              GET
+  /feed/1/batch                        POST
+  /feed/1/revise                       POST
+
+Each limit is its greatest number where it isn't given. A connection ends where
+its client says nothing, or takes nothing, for 30 seconds, and behind 1000
+replies. What is posted to one worker is seen by the others at once where a
+client asks for it (X-Archive-Front), and else soon.
+
+The process can be ended by a signal at any moment: what was answered with 200
+is in the journal. Where a worker can't listen at its port, it ends, and the
+others go on; centre: port fault is told when all have ended. Where the disk
+stops a command, that command and each one after it is answered with 503, and
+questions are answered as before: end the process, look at the disk, and start
+again.
+
+An example, and then, for instance, a question:
+  ./velkatsa serve --journal archive.journal --listen 127.0.0.1:8080 --workers 4
+  curl 'http://127.0.0.1:8080/fdsnws/dataselect/1/query?net=IU' -o chosen.mseed
+";
+
+/// What `drill --help` shows: the words of that command.
+pub const DRILL_HELP: &str = "\
+Usage:
+  velkatsa drill N --journal F
+
+Makes the journal of an archive of N made records in the file F, which is made
+where there is none, and else has to be empty. Then it prints five figures of
+the archive, each on a line.
+
+  N            1 to 200000
+  --journal F  the path of the file
+
+The records have 512 bytes each: 100 samples at 20 Hz of the channel BHZ of the
+stations S0 to S7 of the network XX, in turn, from 2024-01-01 on. The archive
+has the operator op, the user drill with the role feed, and batches of 1000
+records by drill. Nobody knows a password of the two: it is no archive to serve
+to others.
+
+  entries   the entries of the journal
+  records   the records that are held
+  bytes     the bytes of these records
+  spans     the runs of records without a gap, of all channels
+  selected  the bytes of the records that net=XX&sta=S0 asks for
+
+After centre: disk fault or centre: out of memory remove what there is of the
+file, and run it again.
+
+An example, which prints the five lines 3, 160, 81920, 16 and 10240:
+  ./velkatsa drill 160 --journal drill.journal
 ";
 
 /// What `select --help` shows: the words of that command.

@@ -1,9 +1,11 @@
 //! The top call: all that the program does.
-ghost use Rattle.std.specs.Prelude.{◌≡◌, ◌⊎◌, map, option_map, string_bytes, None};
-ghost use Rattle.command_words.specs.Arguments.{words_at, init_words_at, talk_words_at, command_at};
+ghost use Rattle.std.specs.Prelude.{◌≡◌, ◌⊎◌, ◌≤◌, [], length, map, option_map, string_bytes, vec_capacity, None};
+ghost use Rattle.command_words.specs.Arguments.{words_at, init_words_at, talk_words_at, serve_words_at, drill_words_at, command_at};
 ghost use Rattle.command_words.specs.Commands.{command_of};
 ghost use Rattle.centre.specs.Answers.{stop_for_data};
+ghost use Rattle.centre.specs.Drills.{DrillEnding, stop_for_drill};
 ghost use Rattle.centre.specs.Given.{streams, world};
+ghost use Rattle.centre.specs.Serves.{ServeEnding, stop_for_serve};
 ghost use Rattle.centre.specs.Settled.{RunRows};
 ghost use Rattle.centre.specs.Table.{IsRun, IsStarved, IsEnding, SelectRow, InitRow, ShowRow, stop_for_founding};
 ghost use Rattle.centre.specs.Talks.{TalkEnding, stop_for_talk};
@@ -11,18 +13,26 @@ ghost use Rattle.centre.specs.Talks.{TalkEnding, stop_for_talk};
 use crate::ending::{Refusal, Stop};
 use crate::help::text_shown;
 use crate::intake::take_records;
-use crate::telling::tell_stop;
+use crate::telling::{out_of_memory, tell_stop};
 use crate::words::select_query;
 use archive_log::{Archive, FoundFault};
+use centre_drill::{DrillStop, Drilled, drill};
+use centre_serve::{ServeStop, Served, Worker, ports_of, serve};
 use centre_session::{Clock, Trail};
 use centre_talk::{TalkStop, Talked, talk};
-use command_words::{CommandWords, InitArguments, SelectArguments, TalkArguments, command_in};
+use command_words::{
+    CommandWords, DrillArguments, InitArguments, SelectArguments, ServeArguments, TalkArguments,
+    command_in,
+};
 use dataselect::{All, DataRefusal, answer};
 use disk_model::Disk;
 use exact_time::OutOfMemory;
 use http_digest::Secret;
+use link_ports::Port;
+use snapshot_hall::Gate;
 use std::alloc::Global;
 use std::sync::Wait;
+use std::thread::Threads;
 use streams::{Sink, Source, put_all};
 use time_index::TimeIndex;
 
@@ -105,26 +115,40 @@ fn stop_for_talk(stop: TalkStop) -> Stop
     }
 }
 
-// How a command ended, the disk, and the turns of a session.
+// How a drill stops the run.
+fn stop_for_drill(stop: DrillStop) -> Stop
+    ensures { result ≡ stop_for_drill stop }
+{
+    match stop {
+        DrillStop::WriteFault => Stop::WriteFault,
+        DrillStop::DiskFault => Stop::DiskFault,
+        DrillStop::NotEmpty(_) => Stop::Refused(Refusal::NotEmpty),
+        DrillStop::OutOfMemory => Stop::OutOfMemory,
+    }
+}
+
+// How a command ended, the disk, the turns of a session, and the ports.
 #[derive(Drop)]
-struct Done<D: Disk> {
+struct Done<D: Disk, P> {
     ending: Result<(), Stop>,
     disk: D,
     trail: Option<Trail>,
+    ports: Vec<P>,
 }
 
 // The command `init`: the journal, and the founding entry by one commit.
-fn init<S: Source, K: Sink, D: Disk, C: Clock>(
+fn init<S: Source, K: Sink, D: Disk, C: Clock, P: Port + Drop>(
     alloc: Global,
     arguments: &InitArguments,
     source: &S,
     sink: &K,
     disk: D,
     clock: &C,
-) -> Done<D>
+    ports: Vec<P>,
+) -> Done<D, P>
     ensures row { InitRow D.view (init_words_at arguments.now)
-        (world (S.view source.now) (K.view sink.now) disk (C.given clock.now) None)
-        (world (S.view source.now) (K.view sink.now) result.disk (C.given clock.now) result.trail)
+        (world (S.view source.now) (K.view sink.now) disk (C.given clock.now) None (map P.view ports.items))
+        (world (S.view source.now) (K.view sink.now) result.disk (C.given clock.now) result.trail (map P.view result.ports.items))
         result.ending }
 {
     match Archive::found(alloc, disk, arguments.operator, arguments.ha1) {
@@ -132,17 +156,19 @@ fn init<S: Source, K: Sink, D: Disk, C: Clock>(
             ending: Ok(()),
             disk: archive.close(),
             trail: None,
+            ports,
         },
         Err((disk, fault)) => Done {
             ending: Err(stop_for_founding(fault)),
             disk,
             trail: None,
+            ports,
         },
     }
 }
 
 // The command `talk`: one session over the source and the sink.
-fn serve<R: Wait, S: Source, K: Sink, D: Disk, C: Clock>(
+fn converse<R: Wait, S: Source, K: Sink, D: Disk, C: Clock, P: Port + Drop>(
     rt: &R,
     alloc: Global,
     arguments: &TalkArguments,
@@ -151,10 +177,11 @@ fn serve<R: Wait, S: Source, K: Sink, D: Disk, C: Clock>(
     sink: &mut K,
     disk: D,
     clock: &mut C,
-) -> Done<D>
+    ports: Vec<P>,
+) -> Done<D, P>
     ensures row { TalkEnding D.view secret.now (talk_words_at arguments.now)
-        (world (S.view source.old) (K.view sink.old) disk (C.given clock.old) None)
-        (world (S.view source.new) (K.view sink.new) result.disk (C.given clock.new) result.trail)
+        (world (S.view source.old) (K.view sink.old) disk (C.given clock.old) None (map P.view ports.items))
+        (world (S.view source.new) (K.view sink.new) result.disk (C.given clock.new) result.trail (map P.view result.ports.items))
         result.ending }
 {
     let limits = &arguments.limits;
@@ -168,17 +195,124 @@ fn serve<R: Wait, S: Source, K: Sink, D: Disk, C: Clock>(
             ending: Ok(()),
             disk,
             trail,
+            ports,
         },
         Err(stop) => Done {
             ending: Err(stop_for_talk(stop)),
             disk,
             trail,
+            ports,
+        },
+    }
+}
+
+// How a service stops the run.
+fn stop_for_serve(stop: ServeStop) -> Stop
+    ensures { result ≡ stop_for_serve stop }
+{
+    match stop {
+        ServeStop::DiskFault => Stop::DiskFault,
+        ServeStop::PortFault => Stop::PortFault,
+        ServeStop::NotAJournal => Stop::Refused(Refusal::NotAJournal),
+        ServeStop::Damaged(at) => Stop::Refused(Refusal::Damaged(at)),
+        ServeStop::OutOfMemory => Stop::OutOfMemory,
+    }
+}
+
+// The command `serve`: a service over the ports of the workers.
+fn host<
+    R: Threads + Wait + Sync,
+    S: Source,
+    K: Sink,
+    D: Disk + Send,
+    C: Clock + Drop + Send,
+    P: Port<Given: Send> + Drop + Send,
+    G: Gate + Drop + Send,
+>(
+    rt: &R,
+    alloc: Global,
+    arguments: &ServeArguments,
+    secret: &Secret,
+    source: &S,
+    sink: &K,
+    disk: D,
+    clock: &C,
+    workers: Vec<Worker<P, C, G>>,
+    room: Vec<P>,
+) -> Done<D, P>
+    requires workers { (1 ≤ length workers.items) × (length workers.items ≤ 16) }
+    requires room { (room.items ≡ []) × (length workers.items ≤ vec_capacity room) }
+    ensures row { ServeEnding D.view secret.now (serve_words_at arguments.now)
+        (world (S.view source.now) (K.view sink.now) disk (C.given clock.now) None (map (λ worker. P.view worker.port) workers.items))
+        (world (S.view source.now) (K.view sink.now) result.disk (C.given clock.now) result.trail (map P.view result.ports.items))
+        result.ending }
+{
+    let limits = &arguments.limits;
+    let Served {
+        ending,
+        disk,
+        ports,
+    } = serve(rt, alloc, disk, workers, room, secret, limits);
+    match ending {
+        Ok(()) => Done {
+            ending: Ok(()),
+            disk,
+            trail: None,
+            ports,
+        },
+        Err(stop) => Done {
+            ending: Err(stop_for_serve(stop)),
+            disk,
+            trail: None,
+            ports,
+        },
+    }
+}
+
+// The command `drill`: the archive, and then its figures.
+fn make_records<S: Source, K: Sink, D: Disk, C: Clock, P: Port + Drop>(
+    alloc: Global,
+    arguments: &DrillArguments,
+    secret: &Secret,
+    source: &S,
+    sink: &mut K,
+    disk: D,
+    clock: &C,
+    ports: Vec<P>,
+) -> Done<D, P>
+    ensures row { DrillEnding D.view (drill_words_at arguments.now)
+        (world (S.view source.now) (K.view sink.old) disk (C.given clock.now) None (map P.view ports.items))
+        (world (S.view source.now) (K.view sink.new) result.disk (C.given clock.now) result.trail (map P.view result.ports.items))
+        result.ending }
+{
+    let records = arguments.records as u32;
+    let Drilled { ending, disk } = drill(alloc, records, sink, disk, secret);
+    match ending {
+        Ok(()) => Done {
+            ending: Ok(()),
+            disk,
+            trail: None,
+            ports,
+        },
+        Err(stop) => Done {
+            ending: Err(stop_for_drill(stop)),
+            disk,
+            trail: None,
+            ports,
         },
     }
 }
 
 // Does what a command says.
-fn obey_command<R: Wait, S: Source, K: Sink, D: Disk, C: Clock>(
+fn obey_command<
+    R: Threads + Wait + Sync,
+    S: Source,
+    K: Sink,
+    D: Disk + Send,
+    C: Clock + Drop + Send,
+    P: Port<Given: Send> + Drop + Send,
+    G: Gate + Drop + Send,
+>(
     rt: &R,
     alloc: Global,
     command: Option<CommandWords>,
@@ -187,10 +321,14 @@ fn obey_command<R: Wait, S: Source, K: Sink, D: Disk, C: Clock>(
     sink: &mut K,
     disk: D,
     clock: &mut C,
-) -> Done<D>
+    workers: Vec<Worker<P, C, G>>,
+    room: Vec<P>,
+) -> Done<D, P>
+    requires workers { (1 ≤ length workers.items) × (length workers.items ≤ 16) }
+    requires room { (room.items ≡ []) × (length workers.items ≤ vec_capacity room) }
     ensures row { IsEnding D.view secret.now (option_map command_at command.entry)
-        (world (S.view source.old) (K.view sink.old) disk (C.given clock.old) None)
-        (world (S.view source.new) (K.view sink.new) result.disk (C.given clock.new) result.trail)
+        (world (S.view source.old) (K.view sink.old) disk (C.given clock.old) None (map (λ worker. P.view worker.port) workers.items))
+        (world (S.view source.new) (K.view sink.new) result.disk (C.given clock.new) result.trail (map P.view result.ports.items))
         result.ending }
 {
     match command {
@@ -198,28 +336,50 @@ fn obey_command<R: Wait, S: Source, K: Sink, D: Disk, C: Clock>(
             ending: Err(Stop::Refused(Refusal::UnknownCommand)),
             disk,
             trail: None,
+            ports: ports_of(workers, room),
         },
         Some(CommandWords::Show(shown)) => Done {
             ending: show(text_shown(shown), source, sink),
             disk,
             trail: None,
+            ports: ports_of(workers, room),
         },
         Some(CommandWords::Select(arguments)) => Done {
             ending: select(alloc, &arguments, source, sink),
             disk,
             trail: None,
+            ports: ports_of(workers, room),
         },
         Some(CommandWords::Init(arguments)) => {
-            init(alloc, &arguments, source, sink, disk, clock)
+            let ports = ports_of(workers, room);
+            init(alloc, &arguments, source, sink, disk, clock, ports)
         }
         Some(CommandWords::Talk(arguments)) => {
-            serve(rt, alloc, &arguments, secret, source, sink, disk, clock)
+            let ports = ports_of(workers, room);
+            converse(
+                rt, alloc, &arguments, secret, source, sink, disk, clock, ports,
+            )
         }
+        Some(CommandWords::Drill(arguments)) => {
+            let ports = ports_of(workers, room);
+            make_records(alloc, &arguments, secret, source, sink, disk, clock, ports)
+        }
+        Some(CommandWords::Serve(arguments)) => host(
+            rt, alloc, &arguments, secret, source, sink, disk, clock, workers, room,
+        ),
     }
 }
 
 // Does what the words ask for.
-fn obey<R: Wait, S: Source, K: Sink, D: Disk, C: Clock>(
+fn obey<
+    R: Threads + Wait + Sync,
+    S: Source,
+    K: Sink,
+    D: Disk + Send,
+    C: Clock + Drop + Send,
+    P: Port<Given: Send> + Drop + Send,
+    G: Gate + Drop + Send,
+>(
     rt: &R,
     alloc: Global,
     words: &[String],
@@ -228,52 +388,71 @@ fn obey<R: Wait, S: Source, K: Sink, D: Disk, C: Clock>(
     sink: &mut K,
     disk: D,
     clock: &mut C,
-) -> Done<D>
+    workers: Vec<Worker<P, C, G>>,
+    room: Vec<P>,
+) -> Done<D, P>
+    requires workers { (1 ≤ length workers.items) × (length workers.items ≤ 16) }
+    requires room { (room.items ≡ []) × (length workers.items ≤ vec_capacity room) }
     ensures row { IsStarved
-        (world (S.view source.old) (K.view sink.old) disk (C.given clock.old) None)
-        (world (S.view source.new) (K.view sink.new) result.disk (C.given clock.new) result.trail)
+        (world (S.view source.old) (K.view sink.old) disk (C.given clock.old) None (map (λ worker. P.view worker.port) workers.items))
+        (world (S.view source.new) (K.view sink.new) result.disk (C.given clock.new) result.trail (map P.view result.ports.items))
         result.ending
         ⊎ IsEnding D.view secret.now (command_of (map string_bytes words.now))
-        (world (S.view source.old) (K.view sink.old) disk (C.given clock.old) None)
-        (world (S.view source.new) (K.view sink.new) result.disk (C.given clock.new) result.trail)
+        (world (S.view source.old) (K.view sink.old) disk (C.given clock.old) None (map (λ worker. P.view worker.port) workers.items))
+        (world (S.view source.new) (K.view sink.new) result.disk (C.given clock.new) result.trail (map P.view result.ports.items))
         result.ending }
 {
     match command_in(alloc, words) {
-        Ok(command) => obey_command(rt, alloc, command, secret, source, sink, disk, clock),
+        Ok(command) => obey_command(
+            rt, alloc, command, secret, source, sink, disk, clock, workers, room,
+        ),
         Err(OutOfMemory) => Done {
             ending: Err(Stop::OutOfMemory),
             disk,
             trail: None,
+            ports: ports_of(workers, room),
         },
     }
 }
 
-/// How a run ended: its exit status, the disk that was handed in, and the turns of the session of `talk`, if it came to
-/// one.
+/// How a run ended: its exit status, the disk that was handed in, the turns of the session of `talk`, if it came to one,
+/// and the ports of the workers, in their order. With status 70 the ports may be missing.
 #[derive(Drop)]
-pub struct Ended<D: Disk> {
+pub struct Ended<D: Disk, P> {
     pub status: u8,
     pub disk: D,
     pub trail: Option<Trail>,
+    pub ports: Vec<P>,
 }
 
 /// Does what the words ask for, and answers the exit status. `words` are those after the program's name, and `secret`
 /// is what the nonces of HTTP Digest are made of. On `errors` it tells why it stopped; a fault there leaves the status.
 /// `disk` is the archive's file: a command that uses none gives it back as it was. `talk` alone asks the clock.
+/// `serve` alone asks the ports of the workers, of which there are from 1 to 16; the other commands give them back as they were.
 ///
 /// | status | comes where |
 /// |---|---|
-/// | 0 | the sink got the whole answer; `init` left the new archive on the disk; the session of `talk` was served to its end |
+/// | 0 | the sink got the whole answer; `init` and `drill` left the new archive on the disk; the session of `talk` was served to its end; every port of `serve` was closed |
 /// | 1 | the words are no command |
 /// | 2 | a word of the query, or a record of the input, is refused |
 /// | 3 | no record is picked |
 /// | 4 | the answer is longer than the limit |
-/// | 5, 6, 7 | the source, the sink, the disk failed; in `talk` the disk stopped a command |
-/// | 9 | the file that `init` is to make the archive in has bytes, or that which `talk` is to open is no archive |
+/// | 5, 6, 7 | the source, the sink, the disk failed; in `talk` and `serve` the disk stopped a command |
+/// | 8 | the port of a worker of `serve` failed |
+/// | 9 | the file that `init` or `drill` is to make the archive in has bytes, or that which `talk` or `serve` is to open is no archive |
 /// | 10 | the input is longer than 67,108,864 bytes |
 /// | 11 | the input of `talk` ended inside a request |
 /// | 70 | memory ran out |
-pub fn run<R: Wait, S: Source, K: Sink, E: Sink, D: Disk, C: Clock>(
+pub fn run<
+    R: Threads + Wait + Sync,
+    S: Source,
+    K: Sink,
+    E: Sink,
+    D: Disk + Send,
+    C: Clock + Drop + Send,
+    P: Port<Given: Send> + Drop + Send,
+    G: Gate + Drop + Send,
+>(
     rt: &R,
     alloc: Global,
     words: &[String],
@@ -283,34 +462,50 @@ pub fn run<R: Wait, S: Source, K: Sink, E: Sink, D: Disk, C: Clock>(
     errors: &mut E,
     disk: D,
     clock: &mut C,
-) -> Ended<D>
+    workers: Vec<Worker<P, C, G>>,
+) -> Ended<D, P>
+    requires { (1 ≤ length workers.items) × (length workers.items ≤ 16) }
+
     // One row of the table holds, and the errors got its text.
     ensures table { IsRun D.view secret (command_of (map string_bytes words.now))
-        (world (S.view source.old) (K.view sink.old) disk (C.given clock.old) None)
-        (world (S.view source.new) (K.view sink.new) result.disk (C.given clock.new) result.trail)
+        (world (S.view source.old) (K.view sink.old) disk (C.given clock.old) None (map (λ worker. P.view worker.port) workers.items))
+        (world (S.view source.new) (K.view sink.new) result.disk (C.given clock.new) result.trail (map P.view result.ports.items))
         (E.view errors.old) (E.view errors.new) result.status }
 
     // The rows that a reader looks for: which status comes where, and what it leaves.
     ensures rows { RunRows D.view secret (command_of (map string_bytes words.now))
-        (world (S.view source.old) (K.view sink.old) disk (C.given clock.old) None)
-        (world (S.view source.new) (K.view sink.new) result.disk (C.given clock.new) result.trail)
+        (world (S.view source.old) (K.view sink.old) disk (C.given clock.old) None (map (λ worker. P.view worker.port) workers.items))
+        (world (S.view source.new) (K.view sink.new) result.disk (C.given clock.new) result.trail (map P.view result.ports.items))
         (E.view errors.old) (E.view errors.new) result.status }
 {
+    let Ok(room) = Vec::with_capacity(alloc, workers.len()) else {
+        return Ended {
+            status: out_of_memory(errors),
+            disk,
+            trail: None,
+            ports: Vec::new(alloc),
+        };
+    };
     let Done {
         ending,
         disk,
         trail,
-    } = obey(rt, alloc, words, &secret, source, sink, disk, clock);
+        ports,
+    } = obey(
+        rt, alloc, words, &secret, source, sink, disk, clock, workers, room,
+    );
     match ending {
         Ok(()) => Ended {
             status: 0,
             disk,
             trail,
+            ports,
         },
         Err(stop) => Ended {
             status: tell_stop(alloc, errors, stop).status(),
             disk,
             trail,
+            ports,
         },
     }
 }

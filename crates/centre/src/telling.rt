@@ -4,6 +4,7 @@ ghost use Rattle.centre.specs.Status.{name_of_word, error_text_of, text_of_refus
 ghost use Rattle.centre.specs.Table.{Tells, ToldFor};
 
 use crate::ending::{Refusal, Stop, Word};
+use centre_desk::Fault;
 use mseed_header::RecordFault;
 use std::alloc::{AllocError, Global};
 use streams::{Sink, put_all};
@@ -40,9 +41,8 @@ fn record_text(alloc: Global, at: usize, fault: RecordFault) -> Result<String, A
 fn size_text(alloc: Global, bytes: u64, limit: u64) -> Result<String, AllocError>
     ensures { IfOk result (λ text. string_bytes text ≡ text_of_refusal (Refusal.TooLarge bytes limit)) }
 {
-    let mut text = format!(in alloc; "centre: {bytes} bytes exceed ")?;
-    let most = format!(in alloc; "{limit}")?;
-    text.push_str(most.as_str())?;
+    let fault = Fault::ManyBytes { bytes, most: limit };
+    let mut text = format!(in alloc; "centre: {fault}")?;
     text.push_str("\n")?;
     Ok(text)
 }
@@ -120,6 +120,7 @@ pub fn tell_stop<E: Sink>(alloc: Global, errors: &mut E, stop: Stop) -> Stop
         Stop::ReadFault => tell(errors, "centre: read fault\n"),
         Stop::WriteFault => tell(errors, "centre: write fault\n"),
         Stop::DiskFault => tell(errors, "centre: disk fault\n"),
+        Stop::PortFault => tell(errors, "centre: port fault\n"),
         Stop::OutOfMemory => tell(errors, MEMORY_TEXT),
     }
     stop

@@ -1,7 +1,7 @@
 -- Worked examples of whole command lines.
 use Rattle.std.proofs.Common.{◌≡◌, refl, List, [], ◌∷◌, Some, None, codes}
 use Rattle.clap.proofs.OnLiterals.{clap_on_literals}
-use Rattle.command_words.specs.Commands.{InitWords, TalkWords, init, talk, show, command_of}
+use Rattle.command_words.specs.Commands.{InitWords, TalkWords, ServeWords, DrillWords, init, talk, serve, drill, show, command_of}
 use Rattle.command_words.specs.Layouts.{app_for}
 use Rattle.command_words.specs.declared.name.CommandName.TheVariants.{Select, Init, Talk}
 use Rattle.command_words.specs.declared.name.Shown.TheVariants.{Help, Version, HelpOf}
@@ -41,6 +41,48 @@ talk_asked = refl
 no_limit : command_of (codes "talk" ∷ codes "--max-lines" ∷ codes "0" ∷ codes "--journal=a.journal" ∷ []) ≡ None
 unfolding clap_on_literals app_for
 no_limit = refl
+
+abbrev serve_words : ServeWords
+serve_words = record {
+  journal = codes "a.journal";
+  address = codes "127.0.0.1:8080";
+  workers = 2;
+  sessions = None;
+  limits = record { max_bytes = 67_108_864; max_lines = 100_000; max_records = 2_097_152; max_archive = 536_870_912 };
+}
+
+-- `serve` with two workers; 17 are too many, and an address has to be there
+serve_asked : command_of (codes "serve" ∷ codes "--listen" ∷ codes "127.0.0.1:8080" ∷ codes "--workers=2" ∷ codes "--journal=a.journal" ∷ []) ≡ Some (serve serve_words)
+unfolding clap_on_literals app_for
+serve_asked = refl
+
+many_workers : command_of (codes "serve" ∷ codes "--listen=127.0.0.1:8080" ∷ codes "--workers=17" ∷ codes "--journal=a.journal" ∷ []) ≡ None
+unfolding clap_on_literals app_for
+many_workers = refl
+
+no_address : command_of (codes "serve" ∷ codes "--journal=a.journal" ∷ []) ≡ None
+unfolding clap_on_literals app_for
+no_address = refl
+
+abbrev drill_words : DrillWords
+drill_words = record { journal = codes "a.journal"; records = 160 }
+
+-- `drill` with its number before or behind its option; no records, and too many, make no command
+drill_asked : command_of (codes "drill" ∷ codes "160" ∷ codes "--journal" ∷ codes "a.journal" ∷ []) ≡ Some (drill drill_words)
+unfolding clap_on_literals app_for
+drill_asked = refl
+
+number_last : command_of (codes "drill" ∷ codes "--journal=a.journal" ∷ codes "160" ∷ []) ≡ Some (drill drill_words)
+unfolding clap_on_literals app_for
+number_last = refl
+
+no_records : command_of (codes "drill" ∷ codes "0" ∷ codes "--journal=a.journal" ∷ []) ≡ None
+unfolding clap_on_literals app_for
+no_records = refl
+
+many_records : command_of (codes "drill" ∷ codes "200001" ∷ codes "--journal=a.journal" ∷ []) ≡ None
+unfolding clap_on_literals app_for
+many_records = refl
 
 -- two words are no command of `select`, and help is one of each
 two_words : command_of (codes "select" ∷ codes "IU" ∷ []) ≡ None

@@ -1,10 +1,12 @@
 -- The texts of the words that the code lends.
 use Rattle.archive_state.specs.declared.limits.Limits.{Limits}
-use Rattle.command_words.specs.Commands.{SelectWords, InitWords, LimitWords, TalkWords, Command, select, init, talk, show}
+use Rattle.command_words.specs.Commands.{SelectWords, InitWords, LimitWords, TalkWords, ServeWords, DrillWords, Command, select, init, talk, serve, drill, show}
 use Rattle.command_words.specs.declared.arguments.CommandWords.{CommandWords}
-use Rattle.command_words.specs.declared.arguments.CommandWords.TheVariants.{Select, Init, Talk, Show}
+use Rattle.command_words.specs.declared.arguments.CommandWords.TheVariants.{Select, Init, Talk, Serve, Drill, Show}
+use Rattle.command_words.specs.declared.arguments.DrillArguments.{DrillArguments}
 use Rattle.command_words.specs.declared.arguments.InitArguments.{InitArguments}
 use Rattle.command_words.specs.declared.arguments.SelectArguments.{SelectArguments}
+use Rattle.command_words.specs.declared.arguments.ServeArguments.{ServeArguments}
 use Rattle.command_words.specs.declared.arguments.TalkArguments.{TalkArguments}
 
 abbrev pub words_at : SelectArguments → SelectWords
@@ -35,8 +37,22 @@ limits_at limits = record {
 abbrev pub talk_words_at : TalkArguments → TalkWords
 talk_words_at a = record { journal = a.journal.now; limits = limits_at a.limits }
 
+abbrev pub serve_words_at : ServeArguments → ServeWords
+serve_words_at a = record {
+  journal = a.journal.now;
+  address = a.address.now;
+  workers = a.workers;
+  sessions = a.sessions;
+  limits = limits_at a.limits;
+}
+
+abbrev pub drill_words_at : DrillArguments → DrillWords
+drill_words_at a = record { journal = a.journal.now; records = a.records }
+
 abbrev pub command_at : CommandWords → Command
 command_at (Select arguments) = select (words_at arguments)
 command_at (Init arguments) = init (init_words_at arguments)
 command_at (Talk arguments) = talk (talk_words_at arguments)
+command_at (Serve arguments) = serve (serve_words_at arguments)
+command_at (Drill arguments) = drill (drill_words_at arguments)
 command_at (Show shown) = show shown

@@ -4,7 +4,7 @@ use Rattle.std.specs.Str.{bytes_eq}
 use Rattle.clap.specs.Words.{Row, Text}
 use Rattle.epochs.specs.Fields.{is_user_name, is_ha1}
 use Rattle.command_words.specs.Layouts.{app_for}
-use Rattle.command_words.specs.Values.{value_or, limit_in, read_by}
+use Rattle.command_words.specs.Values.{value_or, limit_in, number_or, number_if, read_by}
 use Rattle.command_words.specs.declared.name.CommandName.{CommandName}
 use Rattle.command_words.specs.declared.name.CommandName.TheVariants as name
 use Rattle.command_words.specs.declared.name.Shown.{Shown}
@@ -42,11 +42,27 @@ pub record TalkWords : Type 0 where
   pub journal : Text
   pub limits : LimitWords
 
+-- what the words of `serve` say: the path of the journal, the address to listen at, how many workers there are, behind how
+-- many sessions each of them ends, if it does, and the limits
+pub record ServeWords : Type 0 where
+  pub journal : Text
+  pub address : Text
+  pub workers : ℕ
+  pub sessions : Option ℕ
+  pub limits : LimitWords
+
+-- what the words of `drill` say: the path of the journal, and how many records are made
+pub record DrillWords : Type 0 where
+  pub journal : Text
+  pub records : ℕ
+
 -- what the program can be asked to do
 pub data Command : Type 0 where
   select : SelectWords → Command
   init : InitWords → Command
   talk : TalkWords → Command
+  serve : ServeWords → Command
+  drill : DrillWords → Command
   show : Shown → Command
 
 abbrev pub select_words_with : List Row → ℕ → SelectWords
@@ -93,17 +109,41 @@ talk_words_with journal limits = record { journal = journal; limits = limits }
 abbrev pub talk_words_in : List Row → Option TalkWords
 talk_words_in rows = option_map (talk_words_with (value_or [] (codes "journal") rows)) (limits_in rows)
 
+-- an address, numbers and limits, if each of these is one
+abbrev pub serve_words_with : (journal address : Text) → Option ℕ → Option (Option ℕ) → Option LimitWords → Option ServeWords
+serve_words_with journal address (Some workers) (Some sessions) (Some limits) =
+    Some (record { journal = journal; address = address; workers = workers; sessions = sessions; limits = limits })
+serve_words_with journal address _ _ _ = None
+
+-- the values of `serve`: from 1 to 16 workers, one by default, and from 1 to 10^18 sessions, if that is limited
+abbrev pub serve_words_in : List Row → Option ServeWords
+serve_words_in rows =
+    serve_words_with (value_or [] (codes "journal") rows) (value_or [] (codes "listen") rows)
+    (number_or 1 16 (codes "workers") rows) (number_if 1_000_000_000_000_000_000 (codes "sessions") rows) (limits_in rows)
+
+abbrev pub drill_words_with : Text → ℕ → DrillWords
+drill_words_with journal records = record { journal = journal; records = records }
+
+-- the values of `drill`, if its number is one from 1 to 200,000
+abbrev pub drill_words_in : List Row → Option DrillWords
+drill_words_in rows = option_map (drill_words_with (value_or [] (codes "journal") rows)) (limit_in 200_000 (codes "N") rows)
+
 -- what the words give that begin with a command's name
 abbrev pub words_of_command : CommandName → List Text → Option Command
 words_of_command name.Select words = option_map select (read_by (app_for name.Select) select_words_in words)
 words_of_command name.Init words = option_map init (read_by (app_for name.Init) init_words_in words)
 words_of_command name.Talk words = option_map talk (read_by (app_for name.Talk) talk_words_in words)
+words_of_command name.Serve words = option_map serve (read_by (app_for name.Serve) serve_words_in words)
+words_of_command name.Drill words = option_map drill (read_by (app_for name.Drill) drill_words_in words)
 
 -- the command of a name
 abbrev pub command_named : Text → Option CommandName
 command_named word =
     if bytes_eq word (codes "select") then Some name.Select
-    else (if bytes_eq word (codes "init") then Some name.Init else (if bytes_eq word (codes "talk") then Some name.Talk else None))
+    else (if bytes_eq word (codes "init") then Some name.Init
+    else (if bytes_eq word (codes "talk") then Some name.Talk
+    else (if bytes_eq word (codes "drill") then Some name.Drill
+    else (if bytes_eq word (codes "serve") then Some name.Serve else None))))
 
 -- a word that is a command by itself
 abbrev pub lone_command_of : Text → Option Command

@@ -2,7 +2,7 @@
 use Rattle.std.specs.Prelude.{List, [], ◌∷◌, true, Some, fold, codes}
 use Rattle.clap.specs.Words.{App, Text, new_app, new_rule, with_rule}
 use Rattle.command_words.specs.declared.name.CommandName.{CommandName}
-use Rattle.command_words.specs.declared.name.CommandName.TheVariants.{Select, Init, Talk}
+use Rattle.command_words.specs.declared.name.CommandName.TheVariants.{Select, Init, Talk, Serve, Drill}
 
 -- a position: a word by itself, which has to be there
 abbrev pub add_position : App → Text → App
@@ -22,7 +22,8 @@ app_with name positions required options =
     fold add_option (fold add_required (fold add_position (new_app name) positions) required) options
 
 -- `select NET STA LOC CHA START END` with `--quality`, `--minimum`, `--longest` and `--max-bytes`; `init` with `--journal`,
--- `--operator` and `--ha1`; `talk` with `--journal` and its limits
+-- `--operator` and `--ha1`; `talk` with `--journal` and its limits; `drill N` with `--journal`;
+-- `serve` with `--journal`, `--listen`, `--workers`, `--sessions` and the limits of `talk`
 unfoldable pub app_for : CommandName → App
 app_for Select =
     app_with (codes "select") (codes "NET" ∷ codes "STA" ∷ codes "LOC" ∷ codes "CHA" ∷ codes "START" ∷ codes "END" ∷ []) []
@@ -31,3 +32,7 @@ app_for Init = app_with (codes "init") [] (codes "journal" ∷ codes "operator" 
 app_for Talk =
     app_with (codes "talk") [] (codes "journal" ∷ [])
     (codes "max-bytes" ∷ codes "max-lines" ∷ codes "max-records" ∷ codes "max-archive" ∷ [])
+app_for Serve =
+    app_with (codes "serve") [] (codes "journal" ∷ codes "listen" ∷ [])
+    (codes "workers" ∷ codes "sessions" ∷ codes "max-bytes" ∷ codes "max-lines" ∷ codes "max-records" ∷ codes "max-archive" ∷ [])
+app_for Drill = app_with (codes "drill") (codes "N" ∷ []) (codes "journal" ∷ []) []

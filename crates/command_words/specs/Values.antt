@@ -23,6 +23,26 @@ limit_of most (Some text) = within most (whole_of text)
 abbrev pub limit_in : ℕ → Text → List Row → Option ℕ
 limit_in most name rows = limit_of most (first_of name rows)
 
+-- a number from 1 to the greatest, and this one where none is given
+abbrev pub number_of : (default most : ℕ) → Option Text → Option ℕ
+number_of default most None = Some default
+number_of default most (Some text) = within most (whole_of text)
+
+abbrev pub number_or : (default most : ℕ) → Text → List Row → Option ℕ
+number_or default most name rows = number_of default most (first_of name rows)
+
+-- a number from 1 to the greatest, where one is given
+abbrev pub some_if : Option ℕ → Option (Option ℕ)
+some_if None = None
+some_if (Some n) = Some (Some n)
+
+abbrev pub number_given : ℕ → Option Text → Option (Option ℕ)
+number_given most None = Some None
+number_given most (Some text) = some_if (within most (whole_of text))
+
+abbrev pub number_if : ℕ → Text → List Row → Option (Option ℕ)
+number_if most name rows = number_given most (first_of name rows)
+
 -- what is read of the values that are given, where the words have no fault
 abbrev pub by_rows : {A : Type 0} → (List Row → Option A) → Kinds → List Row → Option A
 by_rows read [] rows = read rows

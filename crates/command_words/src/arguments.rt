@@ -1,5 +1,6 @@
 //! What the words say behind a command's name.
 ghost use Rattle.std.specs.Prelude.{◌≡◌, true};
+ghost use Rattle.archive_state.specs.Limits.{is_limit};
 ghost use Rattle.epochs.specs.Fields.{is_user_name, is_ha1};
 
 use crate::name::Shown;
@@ -43,11 +44,39 @@ pub struct TalkArguments<'a> {
     pub limits: Limits,
 }
 
+/// The words of `serve` behind its name: what its options say.
+#[derive(Clone, Copy)]
+pub struct ServeArguments<'a> {
+    /// The path of the journal.
+    pub journal: &'a str,
+    /// The address at which the first worker listens.
+    pub address: &'a str,
+    /// How many workers there are.
+    pub workers: u64,
+    /// Behind how many sessions each worker ends, if it does.
+    pub sessions: Option<u64>,
+    /// How much an answer and the archive may have.
+    pub limits: Limits,
+    pub ghost workers_in: { is_limit 16 workers ≡ true },
+}
+
+/// The words of `drill` behind its name: its position, and what its option says.
+#[derive(Clone, Copy)]
+pub struct DrillArguments<'a> {
+    /// The path of the journal.
+    pub journal: &'a str,
+    /// How many records are made.
+    pub records: u64,
+    pub ghost records_in: { is_limit 200_000 records ≡ true },
+}
+
 /// What the program is asked to do, with the words for it.
 #[derive(Clone, Copy)]
 pub enum CommandWords<'a> {
     Select(SelectArguments<'a>),
     Init(InitArguments<'a>),
     Talk(TalkArguments<'a>),
+    Serve(ServeArguments<'a>),
+    Drill(DrillArguments<'a>),
     Show(Shown),
 }

@@ -1,14 +1,16 @@
 //! The command that the words of the command line give.
 ghost use Rattle.std.specs.Prelude.{◌≡◌, IfOk, map, option_map, string_bytes};
 ghost use Rattle.clap.specs.Words.{found_of, rows_of};
-ghost use Rattle.command_words.specs.Arguments.{words_at, init_words_at, limits_at, talk_words_at, command_at};
-ghost use Rattle.command_words.specs.Commands.{select_words_in, init_words_with, init_words_in, limits_in, talk_words_in, words_of_command, command_named, lone_command_of, asks_help, named_command_of, command_of};
+ghost use Rattle.command_words.specs.Arguments.{words_at, init_words_at, limits_at, talk_words_at, serve_words_at, drill_words_at, command_at};
+ghost use Rattle.command_words.specs.Commands.{select_words_in, init_words_with, init_words_in, limits_in, talk_words_in, serve_words_in, drill_words_in, words_of_command, command_named, lone_command_of, asks_help, named_command_of, command_of};
 ghost use Rattle.command_words.specs.Layouts.{app_for};
 ghost use Rattle.command_words.specs.Values.{read_by};
 
-use crate::arguments::{CommandWords, InitArguments, SelectArguments, TalkArguments};
+use crate::arguments::{
+    CommandWords, DrillArguments, InitArguments, SelectArguments, ServeArguments, TalkArguments,
+};
 use crate::name::{CommandName, Shown};
-use crate::values::{limit_in, matches_in, value_or};
+use crate::values::{limit_in, matches_in, number_if, number_or, value_or};
 use archive_state::Limits;
 use clap::ArgMatches;
 use epochs::{is_ha1, is_user_name};
@@ -108,6 +110,58 @@ fn talk_in<'a>(alloc: Global, words: &'a [String]) -> Result<Option<TalkArgument
     }
 }
 
+// From 1 to 10^18.
+const MOST_SESSIONS: u64 = 1_000_000_000_000_000_000;
+
+fn serve_with<'a>(matches: &ArgMatches<'a>) -> Option<ServeArguments<'a>>
+    ensures { option_map serve_words_at result ≡ serve_words_in (rows_of (found_of matches.now)) }
+{
+    let workers = number_or(matches, "workers", 1, 16)?;
+    let sessions = number_if(matches, "sessions", MOST_SESSIONS)?;
+    let limits = limits_with(matches)?;
+    Some(ServeArguments {
+        journal: value_or(matches, "journal", ""),
+        address: value_or(matches, "listen", ""),
+        workers,
+        sessions,
+        limits,
+    })
+}
+
+fn serve_in<'a>(
+    alloc: Global,
+    words: &'a [String],
+) -> Result<Option<ServeArguments<'a>>, OutOfMemory>
+    ensures { IfOk result (λ found. option_map serve_words_at found ≡ read_by (app_for CommandName.Serve) serve_words_in (map string_bytes words.entry.now)) }
+{
+    match matches_in(alloc, CommandName::Serve, words)? {
+        Some(matches) => Ok(serve_with(&matches)),
+        None => Ok(None),
+    }
+}
+
+fn drill_with<'a>(matches: &ArgMatches<'a>) -> Option<DrillArguments<'a>>
+    ensures { option_map drill_words_at result ≡ drill_words_in (rows_of (found_of matches.now)) }
+{
+    let records = limit_in(matches, "N", 200_000)?;
+    Some(DrillArguments {
+        journal: value_or(matches, "journal", ""),
+        records,
+    })
+}
+
+fn drill_in<'a>(
+    alloc: Global,
+    words: &'a [String],
+) -> Result<Option<DrillArguments<'a>>, OutOfMemory>
+    ensures { IfOk result (λ found. option_map drill_words_at found ≡ read_by (app_for CommandName.Drill) drill_words_in (map string_bytes words.entry.now)) }
+{
+    match matches_in(alloc, CommandName::Drill, words)? {
+        Some(matches) => Ok(drill_with(&matches)),
+        None => Ok(None),
+    }
+}
+
 // What the words give that begin with a command's name.
 fn words_of_command<'a>(
     alloc: Global,
@@ -120,6 +174,8 @@ fn words_of_command<'a>(
         CommandName::Select => Ok(select_in(alloc, words)?.map(CommandWords::Select)),
         CommandName::Init => Ok(init_in(alloc, words)?.map(CommandWords::Init)),
         CommandName::Talk => Ok(talk_in(alloc, words)?.map(CommandWords::Talk)),
+        CommandName::Serve => Ok(serve_in(alloc, words)?.map(CommandWords::Serve)),
+        CommandName::Drill => Ok(drill_in(alloc, words)?.map(CommandWords::Drill)),
     }
 }
 
@@ -134,6 +190,13 @@ fn command_named(word: &str) -> Option<CommandName>
     }
     if word == "talk" {
         return Some(CommandName::Talk);
+    }
+    if word == "serve" {
+        return Some(CommandName::Serve);
+    }
+
+    if word == "drill" {
+        return Some(CommandName::Drill);
     }
     None
 }

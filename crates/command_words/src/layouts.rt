@@ -89,6 +89,27 @@ fn talk_layout<'a>(alloc: Global) -> Result<Command<'a>, AllocError>
     layout(alloc, "talk", &[], &["journal"], &options)
 }
 
+fn serve_layout<'a>(alloc: Global) -> Result<Command<'a>, AllocError>
+    ensures { IfOk result (λ c. app_of c ≡ app_for CommandName.Serve) }
+{
+    let required = ["journal", "listen"];
+    let options = [
+        "workers",
+        "sessions",
+        "max-bytes",
+        "max-lines",
+        "max-records",
+        "max-archive",
+    ];
+    layout(alloc, "serve", &[], &required, &options)
+}
+
+fn drill_layout<'a>(alloc: Global) -> Result<Command<'a>, AllocError>
+    ensures { IfOk result (λ c. app_of c ≡ app_for CommandName.Drill) }
+{
+    layout(alloc, "drill", &["N"], &["journal"], &[])
+}
+
 /// The command of a name, with the positions and options that it takes.
 pub(crate) fn layout_for<'a>(alloc: Global, name: CommandName) -> Result<Command<'a>, AllocError>
     ensures { IfOk result (λ c. app_of c ≡ app_for name) }
@@ -97,5 +118,7 @@ pub(crate) fn layout_for<'a>(alloc: Global, name: CommandName) -> Result<Command
         CommandName::Select => select_layout(alloc),
         CommandName::Init => init_layout(alloc),
         CommandName::Talk => talk_layout(alloc),
+        CommandName::Serve => serve_layout(alloc),
+        CommandName::Drill => drill_layout(alloc),
     }
 }

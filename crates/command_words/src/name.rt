@@ -6,6 +6,8 @@ pub enum CommandName {
     Select,
     Init,
     Talk,
+    Serve,
+    Drill,
 }
 
 /// A text that is shown.

@@ -3,7 +3,7 @@ ghost use Rattle.std.specs.Prelude.{◌≡◌, IfOk, IfSome, Some, map, option_m
 ghost use Rattle.archive_state.specs.Limits.{is_limit};
 ghost use Rattle.clap.specs.Words.{first_of, found_of, rows_of};
 ghost use Rattle.command_words.specs.Layouts.{app_for};
-ghost use Rattle.command_words.specs.Values.{value_or, limit_of, limit_in, within, Matches};
+ghost use Rattle.command_words.specs.Values.{value_or, limit_of, limit_in, number_or, number_if, within, Matches};
 
 use crate::layouts::layout_for;
 use crate::name::CommandName;
@@ -82,5 +82,32 @@ pub(crate) fn limit_in(matches: &ArgMatches<'_>, name: &str, most: u64) -> Optio
     match value(matches, name) {
         Some(text) => limit_of(most, text),
         None => Some(most),
+    }
+}
+
+/// The number under a name: from 1 to the greatest, and the default where none is given.
+pub(crate) fn number_or(
+    matches: &ArgMatches<'_>,
+    name: &str,
+    default: u64,
+    most: u64,
+) -> Option<u64>
+    requires { is_limit most default ≡ true }
+    ensures same { result ≡ number_or default most name.now (rows_of (found_of matches.now)) }
+    ensures is { IfSome result (λ n. is_limit most n ≡ true) }
+{
+    match value(matches, name) {
+        Some(text) => limit_of(most, text),
+        None => Some(default),
+    }
+}
+
+/// The number under a name, from 1 to the greatest, where one is given. None where it is none.
+pub(crate) fn number_if(matches: &ArgMatches<'_>, name: &str, most: u64) -> Option<Option<u64>>
+    ensures { result ≡ number_if most name.now (rows_of (found_of matches.now)) }
+{
+    match value(matches, name) {
+        Some(text) => limit_of(most, text).map(Some),
+        None => Some(None),
     }
 }

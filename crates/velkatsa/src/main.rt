@@ -1,19 +1,25 @@
-//! The program: its words, standard input, output and error, the archive's file, the time of day, 16 random bytes, and
-//! [`centre::run`] over them.
+//! The program: its words, standard input, output and error, the archive's file, the time of day, 16 random bytes, the ports
+//! of its workers, and [`centre::run`] over them.
 //!
-//! What those streams, that file and that clock give and take is not proved, since a real one tells nothing.
+//! What those streams, that file, that clock and those ports give and take is not proved, since a real one tells nothing.
 #![tactic(auto)]
 
-use centre::{StdSink, StdSource, out_of_memory, outside_of, run};
+ghost use Rattle.std.specs.Prelude.{◌≡◌, IfOk, length};
+
+use centre::{Outside, StdSink, StdSource, Worker, out_of_memory, outside_of, run};
 use centre_session::RealClock;
 use disk_model::FileDisk;
 use exact_time::OutOfMemory;
 use http_digest::Secret;
+use link_ports::TcpPort;
+use snapshot_hall::OpenGate;
 use std::alloc::Global;
 use std::fs::{File, Files};
 use std::io::Read;
+use std::net::{Net, SocketAddr, TcpListener, TcpStream, ToSocketAddrs};
 use std::process::ExitCode;
 use std::rt::Env;
+use std::time::Clock;
 use std::{env, io};
 use streams::put_all;
 
@@ -33,14 +39,42 @@ fn words_after(rt: &(impl Env + AllocGlobal), alloc: Global) -> io::Result<Vec<S
 fn disk_for<R: Files + Drop>(
     files: R,
     alloc: Global,
-    words: &[String],
+    outside: &Outside,
 ) -> Result<FileDisk<R>, OutOfMemory> {
-    let outside = outside_of(alloc, words)?;
     let path = match &outside.journal {
         Some(path) => Some(String::from_str(alloc, path.as_str())?),
         None => None,
     };
     Ok(FileDisk::new(files, path, outside.may_make))
+}
+
+// The address at which a worker listens: the one that the words give, with its port and the worker's number. None where they
+// give none, or there is no such port.
+fn address_for<R: Net>(net: &R, outside: &Outside, number: u8) -> Option<SocketAddr> {
+    let text = outside.address.as_ref()?;
+    let first = text.as_str().to_socket_addrs(net).ok()?.next()?;
+    let port = first.port().checked_add(u16::from(number))?;
+    Some(SocketAddr::new(first.ip(), port))
+}
+
+// The workers that the words ask for. Each listens at its first call.
+fn workers_for<'a, R: Net<Listener = TcpListener, Stream = TcpStream> + Clock>(
+    rt: &'a R,
+    alloc: Global,
+    outside: &Outside,
+) -> Result<Vec<Worker<TcpPort<&'a R>, RealClock<&'a R>, OpenGate>>, OutOfMemory>
+    ensures { IfOk result (λ workers. length workers.items ≡ outside.now.workers) }
+{
+    let mut workers = Vec::new(alloc);
+    'workers: for number in 0..outside.workers {
+        let address = address_for(rt, outside, number);
+        workers.push(Worker {
+            port: TcpPort::new(rt, address, outside.sessions),
+            clock: RealClock::new(rt),
+            gate: OpenGate,
+        })?;
+    }
+    Ok(workers)
 }
 
 // A secret that nobody else knows, for as long as the process runs.
@@ -63,7 +97,13 @@ fn main(rt: HostRuntime) -> ExitCode {
         // A word that is no text makes no command, as no words make none.
         Err(_) => Vec::new(alloc),
     };
-    let Ok(disk) = disk_for(&rt, alloc, &words) else {
+    let Ok(outside) = outside_of(alloc, &words) else {
+        return ExitCode::from(out_of_memory(&mut errors));
+    };
+    let (Ok(disk), Ok(workers)) = (
+        disk_for(&rt, alloc, &outside),
+        workers_for(&rt, alloc, &outside),
+    ) else {
         return ExitCode::from(out_of_memory(&mut errors));
     };
     let Ok(secret) = random_secret(&rt) else {
@@ -81,6 +121,7 @@ fn main(rt: HostRuntime) -> ExitCode {
         &mut errors,
         disk,
         &mut clock,
+        workers,
     );
     ExitCode::from(ended.status)
 }

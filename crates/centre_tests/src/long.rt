@@ -2,7 +2,7 @@
 ghost use Rattle.std.specs.Prelude.{None};
 
 use super::runs::{empty_disk, run_over};
-use crate::{MemorySink, Source, Stream};
+use centre::{MemorySink, Source, Stream};
 use exact_time::{Failed, Many};
 use std::alloc::Global;
 use std::test::Fail;

@@ -8,6 +8,7 @@ use std::alloc::Global;
 use std::process::Abort;
 use std::sync::Wait;
 use std::test::Fail;
+use std::thread::Threads;
 
 const NO_DATA: &str = "centre: no data\n";
 
@@ -24,7 +25,7 @@ fn joined(alloc: Global, records: &[[u8; 512]]) -> Result<Bytes, Fail> {
 
 // Runs the usual query with options over the records: those at the places are written.
 fn check_options(
-    rt: &(impl Abort + AllocGlobal + Wait),
+    rt: &(impl Abort + AllocGlobal + Threads + Wait + Sync),
     options: &[&str],
     records: &[[u8; 512]],
     places: &[usize],
@@ -55,7 +56,7 @@ fn check_options(
 
 // Runs the usual query with options over one record: they are refused.
 fn check_refused(
-    rt: &(impl Abort + AllocGlobal + Wait),
+    rt: &(impl Abort + AllocGlobal + Threads + Wait + Sync),
     options: &[&str],
     status: u8,
     text: &str,

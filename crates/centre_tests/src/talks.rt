@@ -2,13 +2,14 @@
 use super::inits::founded;
 use super::records::{anmo_record, three_hertz_record};
 use super::runs::run_over;
-use crate::{MemorySink, MemorySource, TALK_HELP};
+use centre::{MemorySink, MemorySource, TALK_HELP};
 use disk_model::{Choice, MemoryDisk};
 use exact_time::{Bytes, Many};
 use std::alloc::Global;
 use std::process::Abort;
 use std::sync::Wait;
 use std::test::Fail;
+use std::thread::Threads;
 
 // The operator adds two users.
 const USERS: &[u8] =
@@ -58,7 +59,7 @@ fn source_of(alloc: Global, input: &[&[u8]], fails: u64) -> Result<MemorySource,
 // Runs the words over a source, a sink and a disk, and compares the status, the output, the text on the errors and how
 // many turns there were. It gives the file back.
 fn check_over(
-    rt: &(impl Abort + AllocGlobal + Wait),
+    rt: &(impl Abort + AllocGlobal + Threads + Wait + Sync),
     words: &[&str],
     disk: MemoryDisk,
     mut source: MemorySource,
@@ -77,7 +78,7 @@ fn check_over(
 
 // The same over these bytes, and a sink that takes all.
 fn check_talk(
-    rt: &(impl Abort + AllocGlobal + Wait),
+    rt: &(impl Abort + AllocGlobal + Threads + Wait + Sync),
     words: &[&str],
     disk: MemoryDisk,
     input: &[&[u8]],
@@ -137,7 +138,7 @@ const FULL: &[u8] =
     b"HTTP/1.1 507 Insufficient Storage\r\nContent-Type: text/plain\r\nContent-Length: 30\r\nX-Archive-Front: 3\r\n\r\nError 507: 2 records exceed 1\n";
 
 // The archive with its operator and two users.
-fn users_file(rt: &(impl Abort + AllocGlobal + Wait)) -> Result<Bytes, Fail> {
+fn users_file(rt: &(impl Abort + AllocGlobal + Threads + Wait + Sync)) -> Result<Bytes, Fail> {
     let disk = disk_of(rt.alloc(), founded(), 0)?;
     check_talk(rt, &WORDS, disk, &[USERS], (0, Some(1)), &[ACCEPTED_2], "")
 }

@@ -1,18 +1,25 @@
 //! Runs of `select` over objects in memory.
+ghost use Rattle.std.specs.Prelude.{◌≡◌, IfOk, length};
+
 use super::records::{
     anmo_record, anmo_record_at, changed, little_endian_record, three_hertz_record,
 };
-use crate::{
-    Ended, HELP, MemorySink, MemorySource, SELECT_HELP, Sink, Source, StdSink, StdSource, run,
+use centre::{
+    Ended, HELP, MemorySink, MemorySource, SELECT_HELP, Sink, Source, StdSink, StdSource, Worker,
+    run,
 };
 use centre_session::FixedClock;
 use disk_model::MemoryDisk;
 use exact_time::{Bytes, Many, Moment, OutOfMemory};
 use http_digest::Secret;
+use http_wire::MemoryLink;
+use link_ports::MemoryPort;
+use snapshot_hall::OpenGate;
 use std::alloc::Global;
 use std::process::Abort;
 use std::sync::Wait;
 use std::test::Fail;
+use std::thread::Threads;
 
 // Which calls of the source and of the sink fail, from 1; 0 is none.
 #[derive(Clone, Copy)]
@@ -23,7 +30,8 @@ struct Faults {
 
 const NO_FAULTS: Faults = Faults { source: 0, sink: 0 };
 
-const SECRET: Secret = Secret {
+/// The secret of all runs here.
+pub const SECRET: Secret = Secret {
     bytes: [0, 1, 2, 3, 4, 5, 6, 7, 8, 9, 10, 11, 12, 13, 14, 15],
 };
 
@@ -32,15 +40,16 @@ const NOW: Moment = Moment {
     micros: 1_709_251_200_000_000,
 };
 
-// A clock that stands still.
-fn clock() -> Result<FixedClock, Fail> {
+/// A clock that stands still.
+pub fn clock() -> Result<FixedClock, Fail> {
     if !NOW.is_clock_moment() {
         return Err("no moment".into());
     }
     Ok(FixedClock::new(NOW))
 }
 
-fn owned_words(alloc: Global, words: &[&str]) -> Result<Vec<String>, Fail> {
+/// The words, each a string of its own.
+pub fn owned_words(alloc: Global, words: &[&str]) -> Result<Vec<String>, Fail> {
     let mut owned = Vec::new(alloc);
     for word in words {
         owned.push(String::from_str(alloc, word)?)?;
@@ -70,16 +79,33 @@ pub fn empty_disk(alloc: Global) -> Result<MemoryDisk, OutOfMemory> {
     MemoryDisk::new(alloc, Bytes::new(alloc), Many::new(alloc))
 }
 
-/// How a run ended: its status, how many turns its session had if it came to one, and the disk.
+// One worker with this port.
+fn worker_at(
+    alloc: Global,
+    port: MemoryPort<MemoryLink>,
+) -> Result<Vec<Worker<MemoryPort<MemoryLink>, FixedClock, OpenGate>>, Fail>
+    ensures { IfOk result (λ workers. length workers.items ≡ 1) }
+{
+    let mut workers = Vec::new(alloc);
+    workers.push(Worker {
+        port,
+        clock: clock()?,
+        gate: OpenGate,
+    })?;
+    Ok(workers)
+}
+
+/// How a run ended: its status, how many turns its session had if it came to one, the disk, and the ports.
 #[derive(Drop)]
 pub struct Ran {
     pub status: u8,
     pub turns: Option<usize>,
     pub disk: MemoryDisk,
+    pub ports: Vec<MemoryPort<MemoryLink>>,
 }
 
 /// Runs the words over these streams and a disk, at one moment.
-pub fn run_over<R: AllocGlobal + Wait, S: Source, K: Sink>(
+pub fn run_over<R: AllocGlobal + Threads + Wait + Sync, S: Source, K: Sink>(
     rt: &R,
     words: &[&str],
     source: &mut S,
@@ -88,26 +114,44 @@ pub fn run_over<R: AllocGlobal + Wait, S: Source, K: Sink>(
     disk: MemoryDisk,
 ) -> Result<Ran, Fail> {
     let alloc = rt.alloc();
+    let port = MemoryPort::new(alloc, Many::new(alloc), Many::new(alloc));
+    run_with(rt, words, source, sink, errors, disk, port)
+}
+
+/// The same with the port of a worker.
+pub fn run_with<R: AllocGlobal + Threads + Wait + Sync, S: Source, K: Sink>(
+    rt: &R,
+    words: &[&str],
+    source: &mut S,
+    sink: &mut K,
+    errors: &mut MemorySink,
+    disk: MemoryDisk,
+    port: MemoryPort<MemoryLink>,
+) -> Result<Ran, Fail> {
+    let alloc = rt.alloc();
     let words = owned_words(alloc, words)?;
     let mut clock = clock()?;
+    let workers = worker_at(alloc, port)?;
     let Ended {
         status,
         disk,
         trail,
+        ports,
     } = run(
-        rt, alloc, &words, SECRET, source, sink, errors, disk, &mut clock,
+        rt, alloc, &words, SECRET, source, sink, errors, disk, &mut clock, workers,
     );
     let turns = trail.map(|trail| trail.as_slice().len());
     Ok(Ran {
         status,
         turns,
         disk,
+        ports,
     })
 }
 
 // Runs the words over the input, and compares the status, the output and the text on the errors.
 fn check_with(
-    rt: &(impl Abort + AllocGlobal + Wait),
+    rt: &(impl Abort + AllocGlobal + Threads + Wait + Sync),
     faults: Faults,
     words: &[&str],
     input: &[u8],
@@ -129,7 +173,7 @@ fn check_with(
 
 /// Runs the words over the input without a fault, and compares.
 pub fn check(
-    rt: &(impl Abort + AllocGlobal + Wait),
+    rt: &(impl Abort + AllocGlobal + Threads + Wait + Sync),
     words: &[&str],
     input: &[u8],
     status: u8,
@@ -141,7 +185,7 @@ pub fn check(
 
 // Checks a window over one record: all of it, or nothing.
 fn check_window(
-    rt: &(impl Abort + AllocGlobal + Wait),
+    rt: &(impl Abort + AllocGlobal + Threads + Wait + Sync),
     start: &str,
     record: &[u8],
     is_chosen: bool,
@@ -202,7 +246,7 @@ fn orders_records(rt: HostRuntime) -> Result<(), Fail> {
 
 // Checks that the words are refused before anything is read.
 fn check_words(
-    rt: &(impl Abort + AllocGlobal + Wait),
+    rt: &(impl Abort + AllocGlobal + Threads + Wait + Sync),
     words: &[&str],
     status: u8,
     text: &str,
@@ -378,7 +422,7 @@ fn refuses_records_and_faults(rt: HostRuntime) -> Result<(), Fail> {
 
 // Runs the usual query over the record into the sink, and compares the status and what the sink got.
 fn check_sink(
-    rt: &(impl Abort + AllocGlobal + Wait),
+    rt: &(impl Abort + AllocGlobal + Threads + Wait + Sync),
     mut sink: MemorySink,
     record: &[u8],
     status: u8,

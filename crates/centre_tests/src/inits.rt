@@ -1,12 +1,13 @@
 //! Runs of `init` over disks in memory.
 use super::runs::run_over;
-use crate::{INIT_HELP, MemorySink, MemorySource};
+use centre::{INIT_HELP, MemorySink, MemorySource};
 use disk_model::{Choice, MemoryDisk};
 use exact_time::{Bytes, Many};
 use std::alloc::Global;
 use std::process::Abort;
 use std::sync::Wait;
 use std::test::Fail;
+use std::thread::Threads;
 
 const HA1: &str = "939e7578ed9e3c518a452acee763bce9";
 
@@ -19,8 +20,8 @@ pub fn founded() -> &'static [u8] {
     FOUNDED
 }
 
-// A synced disk with this file, whose call of this number fails; 0 is none.
-fn disk_of(alloc: Global, file: &[u8], fails: u64) -> Result<MemoryDisk, Fail> {
+/// A synced disk with this file, whose call of this number fails; 0 is none.
+pub fn disk_of(alloc: Global, file: &[u8], fails: u64) -> Result<MemoryDisk, Fail> {
     let mut bytes = Bytes::new(alloc);
     bytes.extend(file)?;
     let mut calls = Many::new(alloc);
@@ -28,9 +29,9 @@ fn disk_of(alloc: Global, file: &[u8], fails: u64) -> Result<MemoryDisk, Fail> {
     Ok(MemoryDisk::new(alloc, bytes, calls)?)
 }
 
-// Runs the words over a disk, and compares the status and the texts. It gives the disk back.
-fn check_on(
-    rt: &(impl Abort + AllocGlobal + Wait),
+/// Runs the words over a disk, and compares the status and the texts. It gives the disk back.
+pub fn check_on(
+    rt: &(impl Abort + AllocGlobal + Threads + Wait + Sync),
     words: &[&str],
     disk: MemoryDisk,
     status: u8,
