@@ -14,7 +14,6 @@ use std::sync::Wait;
 use std::sync::atomic::{AtomicBool, Ordering};
 use std::test::Fail;
 use std::thread::Threads;
-use std::time::{Clock, Duration};
 use streams::{Link, Sink, Source, Stream};
 
 // The operator adds a network. The response was made with Python's hashlib.
@@ -38,43 +37,41 @@ struct Signals {
 }
 
 // Whether it came within a few seconds.
-fn await_signal<R: Clock>(rt: &R, signal: &AtomicBool) -> bool {
-    'waits: for _ in 0..5000u32 {
+fn await_signal(signal: &AtomicBool) -> bool {
+    'waits: for _ in 0..1_000_000_000u32 {
         if signal.load(Ordering::SeqCst) {
             return true;
         }
-        std::thread::sleep(rt, Duration::from_millis(1));
+        std::hint::spin_loop();
     }
     false
 }
 
 // The gate of the first worker waits until the reply of the second is being written.
 #[derive(Drop)]
-struct SlowGate<'a, R> {
-    rt: &'a R,
+struct SlowGate<'a> {
     signals: &'a Signals,
 }
 
-impl<'a, R: Clock> Gate for SlowGate<'a, R> {
+impl<'a> Gate for SlowGate<'a> {
     ghost passed = { λ before after. Unit {0} };
 
     fn pass<W: Wait>(&mut self, _rt: &W) {
         self.signals.at_gate.store(true, Ordering::SeqCst);
-        let came = await_signal(self.rt, &self.signals.replying);
+        let came = await_signal(&self.signals.replying);
         self.signals.gate_waited.store(came, Ordering::SeqCst);
     }
 }
 
 // A reader gives what it has only once the first worker is at its gate, and tells when it is written to.
 #[derive(Drop)]
-struct SignalLink<'a, R> {
+struct SignalLink<'a> {
     link: MemoryLink,
-    rt: &'a R,
     is_reader: bool,
     signals: &'a Signals,
 }
 
-impl<'a, R: Clock> Stream for SignalLink<'a, R> {
+impl<'a> Stream for SignalLink<'a> {
     ghost view = { λ s. ⟦<MemoryLink as Stream>⟧.view s.link };
 
     fn faults(&self) -> u64 {
@@ -82,17 +79,17 @@ impl<'a, R: Clock> Stream for SignalLink<'a, R> {
     }
 }
 
-impl<'a, R: Clock> Source for SignalLink<'a, R> {
+impl<'a> Source for SignalLink<'a> {
     fn take(&mut self, into: &mut [u8]) -> Result<usize, Failed> {
         if self.is_reader {
-            let came = await_signal(self.rt, &self.signals.at_gate);
+            let came = await_signal(&self.signals.at_gate);
             self.signals.link_waited.store(came, Ordering::SeqCst);
         }
         self.link.take(into)
     }
 }
 
-impl<'a, R: Clock> Sink for SignalLink<'a, R> {
+impl<'a> Sink for SignalLink<'a> {
     fn put(&mut self, piece: &[u8]) -> Result<usize, Failed> {
         if self.is_reader {
             self.signals.replying.store(true, Ordering::SeqCst);
@@ -101,58 +98,51 @@ impl<'a, R: Clock> Sink for SignalLink<'a, R> {
     }
 }
 
-impl<'a, R: Clock> Link for SignalLink<'a, R> {}
+impl<'a> Link for SignalLink<'a> {}
 
-type SlowWorker<'a, R> = Worker<MemoryPort<SignalLink<'a, R>>, FixedClock, SlowGate<'a, R>>;
+type SlowWorker<'a> = Worker<MemoryPort<SignalLink<'a>>, FixedClock, SlowGate<'a>>;
 
-fn link_of<'a, R: Clock>(
-    rt: &'a R,
+fn link_of<'a>(
     alloc: Global,
     signals: &'a Signals,
     is_reader: bool,
-) -> Result<SignalLink<'a, R>, Fail> {
+) -> Result<SignalLink<'a>, Fail> {
     let mut input = Bytes::new(alloc);
     input.extend(if is_reader { NETWORKS } else { REVISE })?;
     let mut pieces = Many::new(alloc);
     pieces.push(input)?;
     Ok(SignalLink {
         link: MemoryLink::new(alloc, pieces, Many::new(alloc)),
-        rt,
         is_reader,
         signals,
     })
 }
 
-fn worker_of<'a, R: Clock>(
-    rt: &'a R,
+fn worker_of<'a>(
     alloc: Global,
     signals: &'a Signals,
     is_reader: bool,
-) -> Result<SlowWorker<'a, R>, Fail> {
+) -> Result<SlowWorker<'a>, Fail> {
     let mut links = Many::new(alloc);
-    links.push(link_of(rt, alloc, signals, is_reader)?)?;
+    links.push(link_of(alloc, signals, is_reader)?)?;
     Ok(Worker {
         port: MemoryPort::new(alloc, links, Many::new(alloc)),
         clock: clock()?,
-        gate: SlowGate { rt, signals },
+        gate: SlowGate { signals },
     })
 }
 
-fn workers_of<'a, R: Clock>(
-    rt: &'a R,
-    alloc: Global,
-    signals: &'a Signals,
-) -> Result<Vec<SlowWorker<'a, R>>, Fail>
+fn workers_of<'a>(alloc: Global, signals: &'a Signals) -> Result<Vec<SlowWorker<'a>>, Fail>
     ensures { IfOk result (λ workers. length workers.items ≡ 2) }
 {
     let mut workers = Vec::new(alloc);
-    workers.push(worker_of(rt, alloc, signals, false)?)?;
-    workers.push(worker_of(rt, alloc, signals, true)?)?;
+    workers.push(worker_of(alloc, signals, false)?)?;
+    workers.push(worker_of(alloc, signals, true)?)?;
     Ok(workers)
 }
 
 // Whether the one link of a port came back with this written.
-fn is_told<R: Clock>(port: &MemoryPort<SignalLink<'_, R>>, wanted: &[u8]) -> bool {
+fn is_told(port: &MemoryPort<SignalLink<'_>>, wanted: &[u8]) -> bool {
     match port.back() {
         Some([returned]) => returned.link.link.told() == Some(wanted),
         _ => false,
@@ -160,7 +150,7 @@ fn is_told<R: Clock>(port: &MemoryPort<SignalLink<'_, R>>, wanted: &[u8]) -> boo
 }
 
 // Serves the two, and says whether it ended in order, with both replies.
-fn serve_both<R: Threads + Wait + Clock + Sync>(
+fn serve_both<R: Threads + Wait + Sync>(
     rt: &R,
     alloc: Global,
     signals: &Signals,
@@ -173,7 +163,7 @@ fn serve_both<R: Threads + Wait + Clock + Sync>(
     let mut sink = MemorySink::new(alloc, Many::new(alloc));
     let mut errors = MemorySink::new(alloc, Many::new(alloc));
     let disk = disk_of(alloc, founded(), 0)?;
-    let workers = workers_of(rt, alloc, signals)?;
+    let workers = workers_of(alloc, signals)?;
     let mut clock = clock()?;
     let ended = run(
         rt,
