@@ -43,7 +43,6 @@ Usage:
   velkatsa talk --help
   velkatsa serve --journal F --listen A:P [OPTIONS]
   velkatsa serve --help
-
   velkatsa drill N --journal F
   velkatsa drill --help
   velkatsa --help
@@ -62,8 +61,6 @@ feeds. `velkatsa talk --help` says how, with an example.
 
 serve serves HTTP connections at an address on an archive, with several workers
 if wanted. `velkatsa serve --help` says how, with an example.
-
-
 
 drill makes an archive of made records in a file, by which a machine can be
 measured, and prints five figures of it. `velkatsa drill --help` says more.
@@ -84,7 +81,8 @@ Exit status, and the text on standard error:
    5  centre: read fault
    6  centre: write fault
    7  centre: disk fault
-   9  centre: journal is not empty; of talk: centre: not a journal,
+   8  centre: port fault
+   9  centre: journal is not empty; of talk and serve: centre: not a journal,
       centre: journal damaged at 16
   10  centre: input too long
   11  centre: request cut: the input of talk ended inside a request
