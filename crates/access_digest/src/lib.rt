@@ -23,8 +23,6 @@ mod denial;
 mod law;
 mod pass;
 mod patterns;
-#[cfg(test)]
-mod tests;
 
 pub use access::may;
 pub use callers::who;

@@ -23,8 +23,6 @@ mod entry;
 mod fault;
 mod law;
 mod reading;
-#[cfg(test)]
-mod tests;
 
 pub use decoding::{decode, decode_counted};
 pub use encoding::encode;

@@ -15,8 +15,6 @@
 mod book;
 mod front;
 mod rule;
-#[cfg(test)]
-mod tests;
 
 pub use book::{Book, Naming, Opened};
 pub use front::Front;

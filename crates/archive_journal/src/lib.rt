@@ -31,12 +31,8 @@ mod fault;
 mod frame;
 mod journal;
 mod law;
-#[cfg(test)]
-mod real_file;
 mod recover;
 mod room;
-#[cfg(test)]
-mod tests;
 
 pub use fault::{DiskFault, InitFault, ReadFault, RecoverFault};
 pub use frame::Frame;

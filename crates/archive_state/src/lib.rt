@@ -23,8 +23,6 @@ mod numbering;
 mod opening;
 mod posted;
 mod state;
-#[cfg(test)]
-mod tests;
 mod verdict;
 
 pub use admit::Admit;

@@ -20,8 +20,6 @@ mod rank;
 mod rows;
 mod span;
 mod spans;
-#[cfg(test)]
-mod tests;
 mod texts;
 mod window;
 

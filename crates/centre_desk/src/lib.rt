@@ -26,8 +26,6 @@ mod law;
 mod posting;
 mod queries;
 mod replying;
-#[cfg(test)]
-mod tests;
 mod told;
 
 pub use fault::Fault;

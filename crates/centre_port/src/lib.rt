@@ -11,8 +11,6 @@
 
 mod law;
 mod serving;
-#[cfg(test)]
-mod tests;
 
 pub use law::{a_longer_history_keeps_visits, a_visit_is_a_session};
 pub use serving::serve_port;

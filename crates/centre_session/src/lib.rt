@@ -21,8 +21,6 @@ mod law;
 mod real;
 mod serving;
 mod session;
-#[cfg(test)]
-mod tests;
 mod trail;
 mod turns;
 

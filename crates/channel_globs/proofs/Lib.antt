@@ -4,4 +4,5 @@ pub mod MatchingSteps
 pub mod Names
 pub mod OneList
 pub mod PatternTexts
+pub mod Plain
 pub mod SameBytes

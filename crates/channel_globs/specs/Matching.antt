@@ -1,7 +1,7 @@
 -- What a pattern matches: `*` any run of characters, `?` one character, another character itself
 -- (FDSN Web Service Specifications 1.2, dataselect, channel options).
-use Rattle.std.specs.Prelude.{◌≡◌, ℕ, ◌-◌, ◌≤◌, Bool, false, IsTrue, ◌↔◌, ◌==◌, ◌&&◌, ◌||◌, ◌⊎◌, if◌then◌else◌, List, [], ◌∷◌, length, drop, MatchBool}
-use Rattle.std.specs.List.{list_any}
+use Rattle.std.specs.Prelude.{◌≡◌, ℕ, ◌-◌, ◌≤◌, Bool, false, IsTrue, ◌↔◌, ◌==◌, ◌&&◌, ◌||◌, ◌⊎◌, not, if◌then◌else◌, List, [], ◌∷◌, length, drop, MatchBool, Option, Some, None}
+use Rattle.std.specs.List.{list_any, list_all}
 use Rattle.channel_globs.specs.declared.matching.Front.{Front}
 use Rattle.channel_globs.specs.declared.matching.Front.TheVariants.{Done, Star}
 
@@ -39,6 +39,16 @@ is_match (p ∷ ps) code = if p == star then some_suffix (is_match ps) code else
 -- some pattern of the list matches
 abbrev pub is_match_any : List (List ℕ) → List ℕ → Bool
 is_match_any patterns code = list_any (λ pattern. is_match pattern code) patterns
+
+-- the character stands for itself alone
+abbrev pub is_plain : ℕ → Bool
+is_plain c = not ((c == star) || (c == question_mark))
+
+-- the one pattern of a list that has one alone, where that has no wildcard
+abbrev pub single_code : List (List ℕ) → Option (List ℕ)
+single_code [] = None
+single_code (pattern ∷ []) = if list_all is_plain pattern then Some pattern else None
+single_code (pattern ∷ other ∷ more) = None
 
 -- To match a pattern comes to matching glob at what is left of the code.
 pub record LeadsTo (pattern code glob left : List ℕ) : Type 0 where

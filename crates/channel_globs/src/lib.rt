@@ -15,8 +15,6 @@ mod matching;
 mod nslc;
 mod patterns;
 mod reading;
-#[cfg(test)]
-mod tests;
 
 pub use code::Code;
 pub use law::{a_text_is_one_list_or_one_fault, names_are_in_order_of_their_fields};

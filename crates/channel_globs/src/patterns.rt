@@ -1,6 +1,8 @@
-ghost use Rattle.std.specs.Prelude.{◌≡◌, ◌↔◌, ◌⊎◌, List, ℕ, [], ◌∷◌, IsTrue, Any, IfOk, IfErr, IsErrOf};
+ghost use Rattle.std.specs.Prelude.{◌≡◌, ◌↔◌, ◌⊎◌, List, ℕ, [], ◌∷◌, IsTrue, Any, IfOk, IfErr, IsErrOf, IfSome, nat_eq};
+ghost use Rattle.std.specs.List.{list_all};
+ghost use Rattle.std.specs.Cmp.Lexicographic.{pointwise};
 ghost use Rattle.list_laws.specs.Only.{IsOnly};
-ghost use Rattle.channel_globs.specs.Matching.{Matches, is_match_any, star};
+ghost use Rattle.channel_globs.specs.Matching.{Matches, is_match_any, is_plain, single_code, star};
 ghost use Rattle.channel_globs.specs.PatternText.{IsPatternList, IsListFault, RefusesList};
 
 use crate::matching::matches;
@@ -85,6 +87,13 @@ fn items_in(alloc: Global, text: &[u8], part: Part) -> Result<Vec<Code>, GlobFau
     Ok(items)
 }
 
+// Whether a pattern has no wildcard.
+fn is_plain(pattern: &[u8]) -> bool
+    ensures { result ≡ list_all is_plain pattern.now }
+{
+    pattern.iter().all(|byte| *byte != b'*' && *byte != b'?')
+}
+
 /// Patterns of one to eight bytes, of which one has to match: `*` is any run of characters, `?` one
 /// character, and a letter or digit itself.
 #[derive(Debug, Drop)]
@@ -121,6 +130,18 @@ impl PatternList {
         ensures test { result ≡ is_match_any self.now code.now }
     {
         some_matches(&self.items, code)
+    }
+
+    /// The one code that the list matches, where it is a single pattern without wildcards; else none. Takes no
+    /// memory.
+    pub fn single(&self) -> Option<Code>
+        ensures code { result ≡ single_code self.now }
+        ensures alone { IfSome result (λ code. (other : List ℕ) → is_match_any self.now other ≡ pointwise nat_eq code other) }
+    {
+        match self.items.as_slice() {
+            [only] if is_plain(only.as_slice()) => Some(*only),
+            _ => None,
+        }
     }
 
     /// Whether the list is the one pattern `*`, which matches every code. No other list is meant, as

@@ -90,7 +90,8 @@ fn is_selected_by_any(selections: &[Selection], header: &Header) -> bool
 }
 
 impl DataQuery {
-    fn has_quality(&self, header: &Header) -> bool
+    /// Whether the record has the asked quality.
+    pub fn has_quality(&self, header: &Header) -> bool
         ensures { result ≡ holds (λ q. quality_letter q == quality_letter header.now.quality) self.now.quality }
     {
         match self.quality {

@@ -31,8 +31,6 @@ mod fuse;
 mod law;
 mod memory;
 mod replay;
-#[cfg(test)]
-mod tests;
 mod through;
 
 pub use change::Change;

@@ -29,8 +29,6 @@ mod copying;
 mod families;
 mod law;
 mod merging;
-#[cfg(test)]
-mod tests;
 mod users;
 mod wide;
 

@@ -32,8 +32,6 @@ mod reading;
 mod revision;
 mod roles;
 mod statements;
-#[cfg(test)]
-mod tests;
 mod values;
 
 pub use fault::{LineFault, RevisionFault};

@@ -13,8 +13,6 @@ mod asked;
 mod law;
 mod rank;
 mod ranking;
-#[cfg(test)]
-mod tests;
 
 pub use answers::answer;
 pub use law::events_are_in_the_order_asked_for;

@@ -29,8 +29,6 @@ mod rate_order;
 mod ratio;
 mod reading;
 mod sample;
-#[cfg(test)]
-mod tests;
 mod whole;
 mod writing;
 

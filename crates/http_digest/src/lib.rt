@@ -24,8 +24,6 @@ mod response;
 mod same;
 mod scan;
 mod secret;
-#[cfg(test)]
-mod tests;
 
 pub use authorization::{AuthFault, AuthPart, Authorization, Credentials};
 pub use challenges::Challenge;

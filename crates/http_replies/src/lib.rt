@@ -20,10 +20,6 @@ mod head_text;
 mod law;
 mod lines;
 mod reply;
-#[cfg(test)]
-mod samples;
-#[cfg(test)]
-mod tests;
 mod writing;
 
 pub use law::a_reply_reads_back;

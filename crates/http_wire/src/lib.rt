@@ -36,8 +36,6 @@ mod parsing;
 mod reading;
 mod request;
 mod taking;
-#[cfg(test)]
-mod tests;
 mod turn;
 mod writing;
 

@@ -13,8 +13,6 @@ mod memory;
 mod port;
 mod tcp_link;
 mod tcp_port;
-#[cfg(test)]
-mod tests;
 
 pub use memory::{MemoryPort, Returned};
 pub use port::Port;

@@ -16,8 +16,6 @@ mod judging;
 mod kept;
 mod opening;
 mod owned;
-#[cfg(test)]
-mod tests;
 
 pub use judging::{Judged, entry_from, judge};
 pub use kept::OwnedDesk;

@@ -29,8 +29,6 @@ mod station;
 mod station_bodies;
 mod stations;
 mod tables;
-#[cfg(test)]
-mod tests;
 
 pub use avail::{AvailMethod, AvailQuery};
 pub use avails::{avail_get, avail_post};

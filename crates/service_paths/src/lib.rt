@@ -20,8 +20,6 @@ mod page;
 mod routing;
 mod table;
 mod target;
-#[cfg(test)]
-mod tests;
 
 pub use methods::is_allowed;
 pub use page::{Access, Asked, Page, Service};

@@ -14,8 +14,6 @@ mod desk;
 mod gate;
 mod hall;
 mod opening;
-#[cfg(test)]
-mod tests;
 
 pub use desk::SharedDesk;
 pub use gate::{Gate, OpenGate};

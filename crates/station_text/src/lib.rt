@@ -14,8 +14,6 @@ mod answers;
 mod asked;
 mod law;
 mod lines;
-#[cfg(test)]
-mod tests;
 mod windows;
 
 pub use answers::answer;

@@ -47,19 +47,3 @@ impl Kept {
         }
     }
 }
-
-#[cfg(test)]
-mod tests {
-    use super::Kept;
-    use exact_time::Bytes;
-
-    #[test]
-    fn nothing_is_told_behind_a_lost_piece(rt: HostRuntime) {
-        let mut kept = Kept {
-            bytes: Bytes::new(rt.alloc()),
-            tells: false,
-        };
-        kept.add(b"IU");
-        assert!(&rt; kept.told().is_none());
-    }
-}

@@ -23,8 +23,6 @@ mod sink;
 mod source;
 mod stream;
 mod tally;
-#[cfg(test)]
-mod tests;
 mod transfer;
 
 pub use law::what_is_told_goes_on;

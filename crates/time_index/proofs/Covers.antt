@@ -1,4 +1,4 @@
--- The place of a row that some selection selects is among the candidates.
+-- The place of a row that a selection selects is among those of its window.
 use Rattle.std.proofs.Common.{◌≡◌, ℕ, ◌≤◌, ◌^◌, ◌==◌, true, false, not, ◌||◌, ◌&&◌, cond, List, [], ◌∷◌, ◌++◌, map, refl, sym, ap, ◌∙◌, arith, nat_cmp, Option, Some, None, ℤ, pos, negsuc, ◌+ℤ◌, ◌-◌, ◌-ℤ◌, ◌≤ℤ◌, ◌<ℤ◌, int_le, int_lt, true≢false, subst, eq-eqb}
 use Rattle.std.specs.List.{list_any, slice_get, filter}
 use Rattle.std.specs.Map.{lookup}
@@ -23,9 +23,10 @@ use Rattle.time_index.specs.declared.spot.Spot.{Spot}
 use Rattle.time_index.specs.declared.channels.Channel.{Channel}
 use Rattle.time_index.specs.Index.{is_there, LastsAtMost, IsChannelIndex}
 use Rattle.time_index.specs.Spots.{spot_cmp, spot_at, is_same, has, longest_in, has_spot}
-use Rattle.time_index.specs.Windows.{first_spot_at, lower_of, upper_of, from_bound, to_bound, is_forward, places_between, places_at, places_in, candidates, is_place_among, Cover}
+use Rattle.time_index.specs.Windows.{first_spot_at, lower_of, upper_of, from_bound, to_bound, is_forward, places_between, places_at, places_in, places_of_channel, places_by, single_name, window_places, is_place_among}
 use Rattle.time_index.proofs.Lasts.{starts_near}
 use Rattle.time_index.proofs.Named.{same_name}
+use Rattle.time_index.proofs.Singles.{single_named}
 use Rattle.time_index.proofs.Sets.{spots_total, exact_spots, itself, any_filtered, below}
 
 le_nats : (i j : ℕ) → i ≤ j → is_le (nat_cmp i j) ≡ true
@@ -146,22 +147,26 @@ module _ (rows : List Row) (m : BTreeMap Nslc Channel) (index : IsChannelIndex r
       ∙ ap (λ b. b && eq_by_cmp spot_cmp (spot_at i row) (spot_at i row)) (ap is_eq (tied_itself names_total row.header.name))
       ∙ itself (spot_at i row) (spot_at i row) refl
 
-  covers_one : (sel : Selection) (o : Option Channel) → get name_cmp m row.header.name ≡ o → is_selected sel row.header ≡ true → is_place_among i (places_in sel m.entries) ≡ true
-  covers_one sel None e is = absurd (true≢false (sym held ∙ ap (λ c. has c (spot_at i row)) e))
-  covers_one sel (Some ch) e is =
+  covers_channel : (sel : Selection) (o : Option Channel) → get name_cmp m row.header.name ≡ o → is_selected sel row.header ≡ true → is_place_among i (places_of_channel sel o) ≡ true
+  covers_channel sel None e is = absurd (true≢false (sym held ∙ ap (λ c. has c (spot_at i row)) e))
+  covers_channel sel (Some ch) e is =
       let parts = asks sel row.header is in
-      among i sel row.header.name ch m.entries e parts.named
-      (in_window sel ch row.header (spot_at i row) (ap (λ c. has c (spot_at i row)) (sym e) ∙ held) refl parts.reached parts.started
-      (subst (λ (n : ℕ). LastsAtMost row.header n) (ap longest_in e) (index.longest i row at)))
+      in_window sel ch row.header (spot_at i row) (ap (λ c. has c (spot_at i row)) (sym e) ∙ held) refl parts.reached parts.started
+      (subst (λ (n : ℕ). LastsAtMost row.header n) (ap longest_in e) (index.longest i row at))
 
-  covers_all : (sels : List Selection) → list_any (λ s. is_selected s row.header) sels ≡ true → is_place_among i (candidates m.entries sels) ≡ true
-  covers_all [] h = absurd (true≢false (sym h))
-  covers_all (sel ∷ sels) h =
-      list_any-append (λ p. p == i) (places_in sel m.entries) (candidates m.entries sels)
-      ∙ elim (is_selected sel row.header) as (λ b. is_selected sel row.header ≡ b → (b || list_any (λ s. is_selected s row.header) sels) ≡ true → (is_place_among i (places_in sel m.entries) || is_place_among i (candidates m.entries sels)) ≡ true) [
-        | true ↦ λ e _. or_left (is_place_among i (places_in sel m.entries)) (is_place_among i (candidates m.entries sels)) (covers_one sel (get name_cmp m row.header.name) refl e)
-        | false ↦ λ _ rest. or_right (is_place_among i (places_in sel m.entries)) (is_place_among i (candidates m.entries sels)) (covers_all sels rest)
-      ] refl h
+  covers_named : (sel : Selection) (o : Option Channel) → get name_cmp m row.header.name ≡ o → is_selected sel row.header ≡ true → is_place_among i (places_in sel m.entries) ≡ true
+  covers_named sel None e is = absurd (true≢false (sym held ∙ ap (λ c. has c (spot_at i row)) e))
+  covers_named sel (Some ch) e is =
+      let parts = asks sel row.header is in
+      among i sel row.header.name ch m.entries e parts.named (covers_channel sel (Some ch) e is)
 
-pub candidates_cover : (rows : List Row) (m : BTreeMap Nslc Channel) → IsChannelIndex rows m → (sels : List Selection) → Cover rows sels (candidates m.entries sels)
-candidates_cover rows m index sels place row at selected = covers_all rows m index place row at sels selected
+  -- a row that a selection selects is among the places of its window
+  pub covers : (sel : Selection) → is_selected sel row.header ≡ true → is_place_among i (window_places sel m) ≡ true
+  covers sel is =
+      let parts = asks sel row.header is in
+      elim (single_name sel) as (λ o. single_name sel ≡ o → is_place_among i (places_by o sel m) ≡ true) [
+        | None ↦ λ _. covers_named sel (get name_cmp m row.header.name) refl is
+        | Some name ↦ λ e.
+            ap (λ (n : Nslc). is_place_among i (places_of_channel sel (get name_cmp m n))) (single_named sel name row.header.name e parts.named)
+            ∙ covers_channel sel (get name_cmp m row.header.name) refl is
+      ] refl

@@ -13,7 +13,7 @@ use Rattle.time_index.specs.declared.channels.Channel.{Channel}
 use Rattle.time_index.specs.Doubles.{has_image_at, is_twin}
 use Rattle.time_index.specs.Index.{stands, LastsAtMost, IsChannelIndex}
 use Rattle.time_index.specs.Spots.{spot_cmp, spot_at, micros_lasted, has}
-use Rattle.time_index.specs.Windows.{first_spot_at, lower_of, upper_of, places_between, places_at, candidates}
+use Rattle.time_index.specs.Windows.{first_spot_at, lower_of, upper_of, places_between, places_at, places_in, single_name}
 use Rattle.time_index.proofs.Sets.{itself}
 
 -- 100 samples at 20 Hz: the last is 99 periods of 0.05 s after the first
@@ -77,15 +77,21 @@ anmo = record { network = codes "IU"; station = codes "ANMO"; location = codes "
 abbrev entries : List (Nslc × Channel)
 entries = (anmo, channel) ∷ (record anmo { channel = codes "LHZ" }, channel) ∷ []
 
--- of the channels that are named, the places from microsecond 6 to microsecond 10; twice where two
--- selections have them
-once : candidates entries (ten ∷ []) ≡ 2 ∷ 0 ∷ []
+-- of the channels that are named, the places from microsecond 6 to microsecond 10
+named : places_in ten entries ≡ 2 ∷ 0 ∷ []
 unfolding places_at places_between
-once = refl
+named = refl
 
-twice : candidates entries (ten ∷ ten ∷ []) ≡ 2 ∷ 0 ∷ 2 ∷ 0 ∷ []
-unfolding places_at places_between
-twice = refl
+-- four codes without wildcards name one channel, which is looked up
+one : single_name (record ten { station = codes "ANMO" ∷ []; channel = codes "BHZ" ∷ [] }) ≡ Some anmo
+one = refl
+
+-- a pattern may name several, and so may two codes
+several : single_name ten ≡ None
+several = refl
+
+two : single_name (record ten { station = codes "ANMO" ∷ codes "AFI" ∷ []; channel = codes "BHZ" ∷ [] }) ≡ None
+two = refl
 
 held : has (Some channel) (spot 10 0 0) ≡ true
 held = refl

@@ -1,32 +1,43 @@
--- Places that cover what is asked for give the same ranks as all rows do.
-use Rattle.std.proofs.Common.{◌≡◌, ℕ, zero, suc, ◌+◌, ◌==◌, Bool, true, false, ◌||◌, cond, List, [], ◌∷◌, refl, sym, ap, ◌∙◌, arith, Some, None, true≢false, add-zero, zero-add}
+-- What the selections find gives the same ranks as all rows do.
+use Rattle.std.proofs.Common.{◌≡◌, ℕ, zero, suc, ◌+◌, ◌==◌, Bool, true, false, ◌||◌, ◌&&◌, inl, inr, cond, List, [], ◌∷◌, ◌++◌, refl, sym, ap, ◌∙◌, arith, Some, None, true≢false, add-zero, zero-add}
 use Rattle.std.specs.List.{list_any, slice_get}
 use Rattle.std.specs.Ordering.{is_eq, eq_by_cmp}
-use Rattle.std.specs.BTreeSet.{insert_key}
-use Rattle.std.proofs.lemmas.Bool.{and_parts, or_left, or_right}
+use Rattle.std.specs.BTreeMap.{BTreeMap}
+use Rattle.std.specs.BTreeSet.{BTreeSet, IsFromIterResult}
+use Rattle.std.proofs.lemmas.Bool.{and_parts, and_from, or_left, or_right, or_cases}
 use Rattle.std.proofs.lemmas.Bool.Decides.{nat_tests}
 use Rattle.std.proofs.lemmas.Cmp.{tied_itself}
+use Rattle.std.proofs.lemmas.List.{append-nil}
+use Rattle.std.proofs.lemmas.List.Folds.{list_any-append}
+use Rattle.std.proofs.lemmas.Map.Lookups.{btree_set_from_contains}
 use Rattle.std.proofs.lemmas.Map.Views.{tells_apart}
 use Rattle.list_laws.specs.InOrder.{in_order}
-use Rattle.list_laws.proofs.Keys.{same_in_order}
-use Rattle.mseed_header.specs.Quality.{quality_letter}
+use Rattle.list_laws.proofs.Keys.{any_in_order, same_in_order, sorted_in_order}
+use Rattle.channel_globs.specs.declared.nslc.Nslc.{Nslc}
 use Rattle.mseed_header.specs.declared.row.Row.{Row}
 use Rattle.dataselect.specs.declared.order.Rank.{Rank}
 use Rattle.dataselect.specs.declared.query.DataQuery.{DataQuery}
+use Rattle.dataselect.specs.declared.query.Selection.{Selection}
 use Rattle.dataselect.specs.Order.{rank_cmp, rank_at}
-use Rattle.dataselect.specs.Query.{holds, is_asked, is_selected}
+use Rattle.dataselect.specs.Query.{is_asked, is_selected}
 use Rattle.dataselect.specs.Chosen.{passes, ranks_from, ranks_chosen}
 use Rattle.dataselect.proofs.Ranks.{ranks_total, exact_ranks}
-use Rattle.time_index.specs.Windows.{is_place_among, Cover, rank_if, ranks_at}
+use Rattle.time_index.specs.declared.channels.Channel.{Channel}
+use Rattle.time_index.specs.Index.{IsChannelIndex}
+use Rattle.time_index.specs.Windows.{is_place_among, is_of_quality, passes_by, rank_if, ranks_at, ranks_found, window_places}
+use Rattle.time_index.proofs.Covers.{covers}
 
--- one more rank goes to its place, or there is none
-pub rank_in : (test : Row → Bool) (p : ℕ) (rows : List Row) (row : Row) (done more : List Rank) → slice_get rows p ≡ Some row → test row ≡ true → more ≡ insert_key rank_cmp done (rank_at p row)
-    → more ≡ in_order rank_cmp done (rank_if test p (slice_get rows p) [])
-rank_in test p rows row done more get t grown = grown ∙ sym (ap (λ o. in_order rank_cmp done (rank_if test p o [])) get ∙ ap (λ b. in_order rank_cmp done (cond b (rank_at p row ∷ []) [])) t)
+-- one more rank goes to the end, or there is none
+pub rank_in : (test : Row → Bool) (p : ℕ) (rows : List Row) (row : Row) (done more : List Rank) → slice_get rows p ≡ Some row → test row ≡ true → more ≡ done ++ rank_at p row ∷ []
+    → more ≡ done ++ rank_if test p (slice_get rows p) []
+rank_in test p rows row done more get t grown = grown ∙ sym (ap (λ o. done ++ rank_if test p o []) get ∙ ap (λ b. done ++ cond b (rank_at p row ∷ []) []) t)
 
 pub rank_out : (test : Row → Bool) (p : ℕ) (rows : List Row) (row : Row) (done : List Rank) → slice_get rows p ≡ Some row → test row ≡ false
-    → done ≡ in_order rank_cmp done (rank_if test p (slice_get rows p) [])
-rank_out test p rows row done get t = sym (ap (λ o. in_order rank_cmp done (rank_if test p o [])) get ∙ ap (λ b. in_order rank_cmp done (cond b (rank_at p row ∷ []) [])) t)
+    → done ≡ done ++ rank_if test p (slice_get rows p) []
+rank_out test p rows row done get t = sym (ap (λ o. done ++ rank_if test p o []) get ∙ ap (λ b. done ++ cond b (rank_at p row ∷ []) []) t ∙ append-nil done)
+
+pub rank_none : (test : Row → Bool) (p : ℕ) (rows : List Row) (done : List Rank) → slice_get rows p ≡ None → done ≡ done ++ rank_if test p (slice_get rows p) []
+rank_none test p rows done get = sym (ap (λ o. done ++ rank_if test p o []) get ∙ append-nil done)
 
 abbrev has_rank : Rank → List Rank → Bool
 has_rank q ranks = list_any (eq_by_cmp rank_cmp q) ranks
@@ -124,24 +135,102 @@ module _ (seen : Row → Bool) (query : DataQuery) (q : Rank) where
         | false ↦ later
       ]
 
-selected : (seen : Row → Bool) (query : DataQuery) (row : Row) → passes seen query row ≡ true → list_any (λ s. is_selected s row.header) query.selections ≡ true
+-- of some selections one asks for the row
+abbrev passes_any : (Row → Bool) → DataQuery → List Selection → Row → Bool
+passes_any seen query sels row = seen row && (is_of_quality query row.header && list_any (λ s. is_selected s row.header) sels)
+
+any_is : (seen : Row → Bool) (query : DataQuery) (row : Row) → passes_any seen query query.selections row ≡ passes seen query row
 unfolding is_asked
-selected seen query row h =
-    let asked = and_parts (seen row) (is_asked query row.header) h in
-    (and_parts (holds (λ q. quality_letter q == quality_letter row.header.quality) query.quality) (list_any (λ s. is_selected s row.header) query.selections) asked.1).1
+any_is seen query row = refl
+
+-- the parts of what a row passes
+record Passes (seen quality selected : Bool) : Type 0 where
+  seen_is : seen ≡ true
+  quality_is : quality ≡ true
+  selected_is : selected ≡ true
+
+parts_of : (a b c : Bool) → (a && (b && c)) ≡ true → Passes a b c
+parts_of a b c h =
+    let outer = and_parts a (b && c) h in
+    let inner = and_parts b c outer.1 in
+    record { seen_is = outer.0; quality_is = inner.0; selected_is = inner.1 }
+
+of_parts : (a b c : Bool) → Passes a b c → (a && (b && c)) ≡ true
+of_parts a b c h = and_from a (b && c) h.seen_is (and_from b c h.quality_is h.selected_is)
 
 same_bool : (a b : Bool) → (a ≡ true → b ≡ true) → (b ≡ true → a ≡ true) → a ≡ b
 same_bool true b f g = sym (f refl)
 same_bool false true f g = g refl
 same_bool false false f g = refl
 
--- what these places give is what all rows give
-pub found_all : (seen : Row → Bool) (query : DataQuery) (rows : List Row) (ps : List ℕ) → Cover rows query.selections ps
-    → in_order rank_cmp [] (ranks_at (passes seen query) rows ps) ≡ ranks_chosen seen query rows
-found_all seen query rows ps cover =
-    same_in_order ranks_total exact_ranks (ranks_at (passes seen query) rows ps) (ranks_from seen query 0 rows) (λ q.
-    same_bool (has_rank q (ranks_at (passes seen query) rows ps)) (has_rank q (ranks_from seen query 0 rows))
-    (λ h. let c = from_at (passes seen query) rows q ps h in to_from seen query q 0 c.n rows c.row c.at c.passes_is c.is)
+with_test : (test more : Row → Bool) (i : ℕ) (rows : List Row) (q : Rank) → ((row : Row) → test row ≡ true → more row ≡ true) → IsRankFrom test i rows q → IsRankFrom more i rows q
+with_test test more i rows q weaker c = record { n = c.n; row = c.row; index = c.index; at = c.at; passes_is = weaker c.row c.passes_is; is = c.is }
+
+module _ (seen : Row → Bool) (query : DataQuery) (rows : List Row) (m : BTreeMap Nslc Channel) (q : Rank) where
+  -- what the first selection asks for, and what the others do
+  first_asks : (s : Selection) (sels : List Selection) (row : Row) → passes_by seen query s row ≡ true → passes_any seen query (s ∷ sels) row ≡ true
+  first_asks s sels row h =
+      let parts = parts_of (seen row) (is_of_quality query row.header) (is_selected s row.header) h in
+      of_parts (seen row) (is_of_quality query row.header) (list_any (λ s. is_selected s row.header) (s ∷ sels))
+      (record { seen_is = parts.seen_is; quality_is = parts.quality_is; selected_is = or_left (is_selected s row.header) (list_any (λ s. is_selected s row.header) sels) parts.selected_is })
+
+  others_ask : (s : Selection) (sels : List Selection) (row : Row) → passes_any seen query sels row ≡ true → passes_any seen query (s ∷ sels) row ≡ true
+  others_ask s sels row h =
+      let parts = parts_of (seen row) (is_of_quality query row.header) (list_any (λ s. is_selected s row.header) sels) h in
+      of_parts (seen row) (is_of_quality query row.header) (list_any (λ s. is_selected s row.header) (s ∷ sels))
+      (record { seen_is = parts.seen_is; quality_is = parts.quality_is; selected_is = or_right (is_selected s row.header) (list_any (λ s. is_selected s row.header) sels) parts.selected_is })
+
+  from_found : (sels : List Selection) → has_rank q (ranks_found seen query rows m sels) ≡ true → IsRankFrom (passes_any seen query sels) 0 rows q
+  from_found [] h = absurd (true≢false (sym h))
+  from_found (s ∷ sels) h =
+      let here = ranks_at (passes_by seen query s) rows (window_places s m) in
+      let later = ranks_found seen query rows m sels in
+      elim (or_cases (has_rank q here) (has_rank q later) (sym (list_any-append (eq_by_cmp rank_cmp q) here later) ∙ h)) [
+        | inl first ↦ with_test (passes_by seen query s) (passes_any seen query (s ∷ sels)) 0 rows q (first_asks s sels) (from_at (passes_by seen query s) rows q (window_places s m) first)
+        | inr rest ↦ with_test (passes_any seen query sels) (passes_any seen query (s ∷ sels)) 0 rows q (others_ask s sels) (from_found sels rest)
+      ]
+
+  module _ (index : IsChannelIndex rows m) (n : ℕ) (row : Row) (at : slice_get rows n ≡ Some row) (is : q ≡ rank_at (0 + n) row) (place : q.index ≡ n)
+      (seen_is : seen row ≡ true) (quality_is : is_of_quality query row.header ≡ true) where
+    here_found : (s : Selection) → is_selected s row.header ≡ true → has_rank q (ranks_at (passes_by seen query s) rows (window_places s m)) ≡ true
+    here_found s asked =
+        to_at (passes_by seen query s) rows q
+        (record {
+          n = n;
+          row = row;
+          index = place ∙ sym (zero-add n);
+          at = at;
+          passes_is = of_parts (seen row) (is_of_quality query row.header) (is_selected s row.header) (record { seen_is = seen_is; quality_is = quality_is; selected_is = asked });
+          is = is;
+        })
+        (window_places s m)
+        (ap (λ (k : ℕ). is_place_among k (window_places s m)) place ∙ covers rows m index n row at s asked)
+
+    to_found : (sels : List Selection) → list_any (λ s. is_selected s row.header) sels ≡ true → has_rank q (ranks_found seen query rows m sels) ≡ true
+    to_found [] h = absurd (true≢false (sym h))
+    to_found (s ∷ sels) h =
+        let here = ranks_at (passes_by seen query s) rows (window_places s m) in
+        let later = ranks_found seen query rows m sels in
+        list_any-append (eq_by_cmp rank_cmp q) here later
+        ∙ elim (or_cases (is_selected s row.header) (list_any (λ s. is_selected s row.header) sels) h) [
+          | inl first ↦ or_left (has_rank q here) (has_rank q later) (here_found s first)
+          | inr rest ↦ or_right (has_rank q here) (has_rank q later) (to_found sels rest)
+        ]
+
+-- what the selections find is what a walk over all rows finds
+pub found_all : (seen : Row → Bool) (query : DataQuery) (rows : List Row) (m : BTreeMap Nslc Channel) → IsChannelIndex rows m
+    → in_order rank_cmp [] (ranks_found seen query rows m query.selections) ≡ ranks_chosen seen query rows
+found_all seen query rows m index =
+    same_in_order ranks_total exact_ranks (ranks_found seen query rows m query.selections) (ranks_from seen query 0 rows) (λ q.
+    same_bool (has_rank q (ranks_found seen query rows m query.selections)) (has_rank q (ranks_from seen query 0 rows))
+    (λ h. let c = from_found seen query rows m q query.selections h in to_from seen query q 0 c.n rows c.row c.at (sym (any_is seen query c.row) ∙ c.passes_is) c.is)
     (λ h.
     let c = from_from seen query q 0 rows h in
-    to_at (passes seen query) rows q c ps (ap (λ (k : ℕ). is_place_among k ps) (c.index ∙ zero-add c.n) ∙ cover c.n c.row c.at (selected seen query c.row c.passes_is))))
+    let parts = parts_of (seen c.row) (is_of_quality query c.row.header) (list_any (λ s. is_selected s c.row.header) query.selections) (any_is seen query c.row ∙ c.passes_is) in
+    to_found seen query rows m q index c.n c.row c.at c.is (c.index ∙ zero-add c.n) parts.seen_is parts.quality_is query.selections parts.selected_is))
+
+-- a set that was collected has its keys in order
+pub collected : (ranks : List Rank) (set : BTreeSet Rank) → IsFromIterResult rank_cmp ranks set → set.keys ≡ in_order rank_cmp [] ranks
+collected ranks set made =
+    btree_set_from_contains ranks_total set (record { keys = in_order rank_cmp [] ranks }) made.1 (sorted_in_order ranks_total ranks)
+    (λ q. made.0 q ∙ sym (any_in_order exact_ranks (eq_by_cmp rank_cmp q) ranks)) exact_ranks

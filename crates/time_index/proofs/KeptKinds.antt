@@ -1,5 +1,5 @@
 -- The merged spans of a name are those that are kept of its kinds, one behind the other.
-use Rattle.std.proofs.Common.{◌≡◌, ℕ, ◌+◌, ◌^◌, ◌≤◌, ◌==◌, Bool, true, false, not, ◌&&◌, ◌||◌, cond, List, [], ◌∷◌, ◌++◌, map, filter, length, Option, Some, None, refl, sym, ap, ◌∙◌, arith, subst, Ordering, true≢false, nat_cmp}
+use Rattle.std.proofs.Common.{◌≡◌, ℕ, ◌+◌, ◌^◌, ◌≤◌, ◌==◌, Bool, true, false, not, ◌&&◌, ◌||◌, cond, List, [], ◌∷◌, ◌++◌, map, filter, length, Option, Some, refl, sym, ap, ◌∙◌, arith, subst, Ordering, true≢false, nat_cmp}
 use Rattle.std.specs.List.{AllByRecursion, list_any, fold, flat_map, slice_get}
 use Rattle.std.specs.List.Sorted.{IsStrictlySortedBy}
 use Rattle.std.specs.Map.{lookup}
@@ -26,7 +26,7 @@ use Rattle.mseed_header.proofs.Qualities.{qualities_total, exact_qualities, qual
 use Rattle.mseed_header.specs.declared.quality.Quality.{Quality}
 use Rattle.mseed_header.specs.Quality.{quality_cmp}
 use Rattle.mseed_header.specs.declared.row.Row.{Row}
-use Rattle.dataselect.specs.MergedSpans.{SpanValue, by_quality_and_rate, has_name, span_at, longer, merged_spans_of}
+use Rattle.dataselect.specs.MergedSpans.{by_quality_and_rate, has_name, span_at, longer, merged_spans_of}
 use Rattle.dataselect.specs.Segments.{is_same_name}
 use Rattle.dataselect.specs.SpanOrder.{span_rank_cmp, rank_placed, row_or_none, rows_ranked}
 use Rattle.dataselect.specs.Spans.{is_other_group, placed_from, rows_in_order}
@@ -39,7 +39,7 @@ use Rattle.dataselect.proofs.Splits.{split, all_weaker}
 use Rattle.time_index.specs.declared.kept.Kept.{Kept}
 use Rattle.time_index.specs.contracts.kind.KindOrd.TheImpl.{cmp-value as by_kind}
 use Rattle.time_index.specs.declared.kind.Kind.{Kind}
-use Rattle.time_index.specs.Kept.{kind_cmp, kind_of, is_of, from, upto, both, kept_mend, kept_of, kept_spans, entries_or, spans_at, Kinds, AreKept, mark_at, span_value, told_at, told_value, told_values, kind_values, all_values}
+use Rattle.time_index.specs.Kept.{kind_cmp, kind_of, is_of, from, upto, both, kept_mend, kept_of, entries_or, spans_at, Kinds, AreKept, mark_at, span_value, told_at, told_value, told_values, kind_values, all_values}
 use Rattle.time_index.proofs.KeptRows.{kept_are_spans, Still, kept_still}
 use Rattle.time_index.specs.declared.kept.Mark.{Mark}
 use Rattle.std.proofs.lemmas.Bool.Decides.{nat_tests}

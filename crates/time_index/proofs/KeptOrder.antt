@@ -1,5 +1,5 @@
 -- Two kept spans are one in either order: a mark's time in one rate tells it apart.
-use Rattle.std.proofs.Common.{◌≡◌, ℕ, ◌+◌, ◌-◌, ◌*◌, ◌^◌, ◌<◌, ◌==◌, min, ℤ, pos, ◌+ℤ◌, ◌*ℤ◌, ◌≤ℤ◌, Bool, true, false, refl, sym, ap, ◌∙◌, arith, cond, Ordering, nat_cmp}
+use Rattle.std.proofs.Common.{◌≡◌, ℕ, ◌+◌, ◌-◌, ◌*◌, ◌^◌, ◌<◌, ◌==◌, min, ℤ, pos, ◌+ℤ◌, ◌*ℤ◌, ◌≤ℤ◌, true, false, refl, sym, ap, ◌∙◌, arith, cond, Ordering, nat_cmp}
 use Rattle.std.specs.Int.{int_min, int_max}
 use Rattle.std.specs.Cmp.{IsTotalOrder}
 use Rattle.std.specs.Ordering.{int_cmp, ordering_then, match_ordering, is_lt}
@@ -14,11 +14,11 @@ use Rattle.exact_time.specs.SampleTime.{sample_micros, sample_parts}
 use Rattle.exact_time.proofs.Wholes.{some_parts}
 use Rattle.exact_time.specs.declared.moment.Moment.{Moment}
 use Rattle.exact_time.specs.declared.ratio.Ratio.{Ratio}
-use Rattle.dataselect.specs.MergedSpans.{SampleAt, micros_at, at_cmp}
+use Rattle.dataselect.specs.MergedSpans.{micros_at, at_cmp}
 use Rattle.dataselect.proofs.Floors.{times_cancel}
 use Rattle.time_index.specs.declared.kept.Kept.{Kept}
 use Rattle.time_index.specs.declared.kept.Mark.{Mark}
-use Rattle.time_index.specs.Kept.{mark_at, mark_cmp, joined, from, upto, both}
+use Rattle.time_index.specs.Kept.{mark_at, mark_cmp, joined, both}
 
 then_first : (o p : Ordering) → ordering_then o p ≡ Equal → o ≡ Equal
 then_first Less p h = h

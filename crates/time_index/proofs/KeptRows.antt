@@ -1,15 +1,14 @@
 -- The spans that are kept of rows of one name, quality and rate, which go in one by one, are those of the rows in
 -- order.
-use Rattle.std.proofs.Common.{◌≡◌, ℕ, suc, ◌+◌, ◌-◌, ◌*◌, ◌^◌, ◌<◌, ◌≤◌, ◌==◌, min, ℤ, pos, ◌+ℤ◌, ◌*ℤ◌, ◌≤ℤ◌, ◌<ℤ◌, Bool, true, false, not, ◌&&◌, cond, List, [], ◌∷◌, ◌++◌, map, filter, length, refl, sym, ap, ◌∙◌, arith, subst, Ordering, nat_cmp, append-nil}
+use Rattle.std.proofs.Common.{◌≡◌, ℕ, ◌+◌, ◌-◌, ◌*◌, ◌^◌, ◌<◌, ◌≤◌, ◌==◌, min, ℤ, pos, ◌+ℤ◌, ◌*ℤ◌, ◌≤ℤ◌, ◌<ℤ◌, Bool, true, false, not, cond, List, [], ◌∷◌, ◌++◌, map, filter, length, refl, sym, ap, ◌∙◌, arith, Ordering, nat_cmp, append-nil}
 use Rattle.std.specs.Prelude.{int_lt}
 use Rattle.std.specs.Int.{int_min, int_max}
 use Rattle.std.specs.List.{AllByRecursion, fold, list_all, flat_map}
 use Rattle.std.specs.List.Sorted.{IsStrictlySortedBy}
 use Rattle.std.specs.BTreeSet.{insert_key}
-use Rattle.std.specs.Ordering.{int_cmp, ordering_then, match_ordering, is_eq, eq_by_cmp, MatchOrdering}
+use Rattle.std.specs.Ordering.{int_cmp, ordering_then, match_ordering, is_eq, MatchOrdering}
 use Rattle.std.specs.declared.cmp.Ordering.TheVariants.{Less, Equal, Greater}
-use Rattle.std.proofs.lemmas.Bool.{and_parts, true≢false}
-use Rattle.std.proofs.lemmas.Bool.Decides.{nat_tests}
+use Rattle.std.proofs.lemmas.Bool.{and_parts}
 use Rattle.std.proofs.lemmas.Cmp.{int_ranked, tied_itself}
 use Rattle.std.proofs.lemmas.Int.{ints, clamps}
 use Rattle.std.proofs.lemmas.List.{map-append}
@@ -21,7 +20,7 @@ use Rattle.list_laws.proofs.Keys.{all_in_order, length_in_order, sorted_in_order
 use Rattle.list_laws.proofs.Mended.{mended_inserted, swept_from, swept_mended, InOrder, apart_mend}
 use Rattle.list_laws.proofs.Passes as passing
 use Rattle.exact_time.specs.RateOrder.{rate_cmp, rates_total}
-use Rattle.exact_time.specs.SampleTime.{sample_micros, sample_parts, reach_at}
+use Rattle.exact_time.specs.SampleTime.{sample_micros, sample_parts}
 use Rattle.exact_time.specs.declared.moment.Moment.{Moment}
 use Rattle.exact_time.specs.declared.ratio.Ratio.{Ratio}
 use Rattle.exact_time.proofs.Rates.{exact_rates}
@@ -33,13 +32,11 @@ use Rattle.mseed_header.proofs.Qualities.{qualities_total, exact_qualities}
 use Rattle.mseed_header.specs.Header.{EndsInTime, IsRecord}
 use Rattle.mseed_header.specs.Quality.{quality_cmp}
 use Rattle.mseed_header.specs.Times.{next_index, last_index}
-use Rattle.mseed_header.specs.declared.header.Header.{Header}
-use Rattle.mseed_header.specs.declared.quality.Quality.{Quality}
 use Rattle.mseed_header.specs.declared.row.Row.{Row}
-use Rattle.dataselect.specs.MergedSpans.{SpanValue, by_quality_and_rate, has_name, span_at, longer, next_at, last_at, at_cmp}
+use Rattle.dataselect.specs.MergedSpans.{SpanValue, by_quality_and_rate, has_name, span_at, longer, at_cmp}
 use Rattle.dataselect.specs.Runs.{runs_by}
 use Rattle.dataselect.specs.Runs as pairs
-use Rattle.dataselect.specs.Spans.{breaks, group_cmp, is_other_group, is_too_late, placed_cmp, placed_from, rows_in_order, groups_of, runs_in_group}
+use Rattle.dataselect.specs.Spans.{breaks, group_cmp, is_other_group, is_too_late, placed_cmp, placed_from, rows_in_order, runs_in_group}
 use Rattle.dataselect.proofs.Floors.{times_cancel}
 use Rattle.dataselect.proofs.GroupCuts.{spans_of}
 use Rattle.dataselect.proofs.Groups.{placed_total}
@@ -49,7 +46,7 @@ use Rattle.list_laws.specs.Greater.{greater}
 use Rattle.time_index.specs.declared.kept.Kept.{Kept}
 use Rattle.time_index.specs.declared.kept.Mark.{Mark}
 use Rattle.time_index.specs.declared.kind.Kind.{Kind}
-use Rattle.time_index.specs.Kept.{kind_cmp, kind_of, is_of, mark_at, mark_cmp, joined, from, upto, both, kept_mend, kept_of, kept_spans, span_value}
+use Rattle.time_index.specs.Kept.{kind_cmp, kind_of, is_of, mark_at, mark_cmp, from, upto, both, kept_mend, kept_of, kept_spans, span_value}
 use Rattle.time_index.proofs.KeptOrder.{both_comm, both_assoc, greater_at, then_parts}
 
 abbrev top : ℤ

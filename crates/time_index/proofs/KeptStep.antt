@@ -1,6 +1,6 @@
 -- One row more, or the last one less: what is kept of the others.
-use Rattle.std.proofs.Common.{◌≡◌, ℕ, zero, suc, ◌-◌, ◌<◌, ◌≤◌, arith, length, take, length-append, Bool, true, false, ◌&&◌, ◌||◌, cond, List, [], ◌∷◌, ◌++◌, filter, Option, Some, None, refl, sym, ap, ◌∙◌, subst, true≢false, unwrap_or}
-use Rattle.std.specs.List.{list_any, fold, AllByRecursion, slice_get}
+use Rattle.std.proofs.Common.{◌≡◌, ℕ, zero, suc, ◌-◌, ◌<◌, arith, length, take, length-append, Bool, true, false, ◌&&◌, ◌||◌, cond, List, [], ◌∷◌, ◌++◌, filter, Some, None, refl, sym, ap, ◌∙◌, subst, true≢false, unwrap_or}
+use Rattle.std.specs.List.{list_any, slice_get}
 use Rattle.std.proofs.lemmas.List.{take_all}
 use Rattle.list_laws.proofs.Places.{get_last}
 use Rattle.dataselect.specs.Rows.{has_image, inserted_as, with_row}
@@ -9,7 +9,6 @@ use Rattle.time_index.proofs.Shrunk.{take_less}
 use Rattle.std.specs.BTreeMap.{BTreeMap, get, is_at}
 use Rattle.std.specs.Map.{lookup}
 use Rattle.std.specs.Ordering.{is_eq}
-use Rattle.std.proofs.lemmas.Bool.{and_parts}
 use Rattle.std.proofs.lemmas.Cmp.{tied_itself}
 use Rattle.std.proofs.lemmas.List.Sums.{fold_push}
 use Rattle.std.proofs.lemmas.Map.Views.{tells_apart}
@@ -25,7 +24,7 @@ use Rattle.dataselect.proofs.Rises.{same_names, same_name_of}
 use Rattle.time_index.specs.Spots.{is_same}
 use Rattle.time_index.specs.declared.kept.Kept.{Kept}
 use Rattle.time_index.specs.declared.kind.Kind.{Kind}
-use Rattle.time_index.specs.Kept.{kind_cmp, kind_of, is_of, from, upto, kept_mend, kept_of, kept_spans, entries_or, Kinds, spans_at, AreKept, AllKept, IsKnown}
+use Rattle.time_index.specs.Kept.{kind_cmp, kind_of, is_of, from, upto, kept_mend, kept_of, kept_spans, entries_or, Kinds, spans_at, AreKept, AllKept}
 use Rattle.time_index.proofs.KeptKinds.{exact_kinds}
 use Rattle.time_index.proofs.KeptRows.{kept_spread}
 use Rattle.time_index.proofs.Named.{same_name}

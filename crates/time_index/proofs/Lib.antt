@@ -13,5 +13,6 @@ pub mod NamesFound
 pub mod PlacesFound
 pub mod Sets
 pub mod Shrunk
+pub mod Singles
 pub mod SpansFound
 pub mod Twins

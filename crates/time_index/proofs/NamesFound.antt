@@ -24,7 +24,9 @@ use Rattle.time_index.specs.declared.channels.Channel.{Channel}
 use Rattle.time_index.specs.Index.{is_there, IsChannelIndex}
 use Rattle.time_index.specs.Names.{is_some_spot, has_rows, names_in}
 use Rattle.time_index.specs.Spots.{spot_cmp, spot_at, is_same, has}
+use Rattle.time_index.specs.Windows.{single_name}
 use Rattle.time_index.proofs.Named.{same_name}
+use Rattle.time_index.proofs.Singles.{single_named, names_its_name}
 use Rattle.time_index.proofs.Sets.{itself}
 
 -- there is a channel, and it has a row
@@ -167,3 +169,33 @@ named_alike name row =
 -- a channel has rows exactly where some row has its name
 pub name_found : (name : Nslc) (rows : List Row) (m : BTreeMap Nslc Channel) → IsChannelIndex rows m → full (get name_cmp m name) ≡ list_any (has_name name) rows
 name_found name rows m index = full_is rows m index name ∙ (λ i. list_any (λ row. named_alike name row i) rows)
+
+-- the one name that a selection can match, where some row has it
+pub single_found : (s : Selection) (name : Nslc) (held : Bool) (rows : List Row) (m : BTreeMap Nslc Channel) → IsChannelIndex rows m → single_name s ≡ Some name → held ≡ list_any (has_name name) rows
+    → cond held (name ∷ []) [] ≡ names_of s rows
+single_found s name held rows m index single is =
+    alone held ∙ same_in_order names_total exact_names (cond held (name ∷ []) []) (filter (is_named s) (map (λ row. row.header.name) rows)) (λ q.
+    elim (equal q name) as (λ b. equal q name ≡ b → list_any (equal q) (cond held (name ∷ []) []) ≡ list_any (equal q) (filter (is_named s) (map (λ row. row.header.name) rows))) [
+      | true ↦ λ k.
+          let same : q ≡ name = same_names q name k in
+          let there : held ≡ list_any (λ row. equal q row.header.name) rows = is ∙ sym (λ i. list_any (λ row. named_alike name row i) rows) ∙ ap (λ n. list_any (λ row. equal n row.header.name) rows) (sym same) in
+          any_one q held k ∙ there ∙ ap (λ b. b && list_any (λ row. equal q row.header.name) rows) (sym (ap (is_named s) same ∙ names_its_name s name single)) ∙ sym (filtered (is_named s) q rows)
+      | false ↦ λ k.
+          any_other q held k
+          ∙ elim (is_named s q) as (λ b. is_named s q ≡ b → false ≡ list_any (equal q) (filter (is_named s) (map (λ row. row.header.name) rows))) [
+            | true ↦ λ n. absurd (true≢false (sym (equal_names q name (sym (single_named s name q single n))) ∙ k))
+            | false ↦ λ n. ap (λ b. b && list_any (λ row. equal q row.header.name) rows) (sym n) ∙ sym (filtered (is_named s) q rows)
+          ] refl
+    ] refl)
+  where
+    alone : (b : Bool) → cond b (name ∷ []) [] ≡ in_order name_cmp [] (cond b (name ∷ []) [])
+    alone true = refl
+    alone false = refl
+
+    any_one : (q : Nslc) (b : Bool) → equal q name ≡ true → list_any (equal q) (cond b (name ∷ []) []) ≡ b
+    any_one q true k = ap (λ x. x || false) k
+    any_one q false k = refl
+
+    any_other : (q : Nslc) (b : Bool) → equal q name ≡ false → list_any (equal q) (cond b (name ∷ []) []) ≡ false
+    any_other q true k = ap (λ x. x || false) k
+    any_other q false k = refl

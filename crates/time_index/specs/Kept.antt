@@ -1,5 +1,5 @@
 -- Spans that are kept merged as rows come: each quality and rate of a channel by itself, by their least start.
-use Rattle.std.specs.Prelude.{◌≡◌, false, ◌⊎◌, ℕ, ◌+◌, ◌-◌, ◌^◌, min, ℤ, pos, ◌≤ℤ◌, ◌<ℤ◌, int_lt, int_le, ◌==◌, if◌then◌else◌, Bool, ◌&&◌, List, [], ◌∷◌, ◌++◌, map, filter, Option, Some, None}
+use Rattle.std.specs.Prelude.{◌≡◌, false, ◌⊎◌, ◌+◌, ◌-◌, ◌^◌, min, ℤ, pos, ◌≤ℤ◌, ◌<ℤ◌, int_lt, int_le, ◌==◌, if◌then◌else◌, Bool, ◌&&◌, List, [], ◌∷◌, ◌++◌, map, filter, Option, Some, None}
 use Rattle.std.specs.Int.{int_min, int_max}
 use Rattle.std.specs.List.{AllByRecursion, fold, flat_map, list_any}
 use Rattle.std.specs.declared.cmp.Ordering.{Ordering}

@@ -1,17 +1,23 @@
 -- The places of the rows that a window may have.
-use Rattle.std.specs.Prelude.{◌≡◌, ℕ, ◌-◌, ◌^◌, ℤ, pos, negsuc, ◌+ℤ◌, ◌-ℤ◌, Bool, true, List, [], ◌∷◌, ◌++◌, map, Option, Some, None, if◌then◌else◌, int_le, int_lt, ◌==◌}
+use Rattle.std.specs.Prelude.{ℕ, ◌-◌, ◌^◌, ℤ, pos, negsuc, ◌+ℤ◌, ◌-ℤ◌, Bool, true, ◌&&◌, List, [], ◌∷◌, ◌++◌, map, Option, Some, None, if◌then◌else◌, int_le, int_lt, ◌==◌}
 use Rattle.std.specs.List.{list_any, slice_get}
 use Rattle.std.specs.Ordering.{is_le}
 use Rattle.std.specs.declared.ops.Bound.{Bound}
 use Rattle.std.specs.declared.ops.Bound.TheVariants.{Included, Excluded, Unbounded}
+use Rattle.std.specs.BTreeMap.{BTreeMap, get}
 use Rattle.std.specs.BTreeSet.{BTreeSet, keys_between}
 use Rattle.exact_time.specs.declared.moment.Moment.{Moment}
 use Rattle.channel_globs.specs.declared.nslc.Nslc.{Nslc}
+use Rattle.channel_globs.specs.Matching.{single_code}
+use Rattle.channel_globs.specs.Names.{name_cmp}
+use Rattle.mseed_header.specs.Quality.{quality_letter}
+use Rattle.mseed_header.specs.declared.header.Header.{Header}
 use Rattle.mseed_header.specs.declared.row.Row.{Row}
 use Rattle.dataselect.specs.declared.order.Rank.{Rank}
+use Rattle.dataselect.specs.declared.query.DataQuery.{DataQuery}
 use Rattle.dataselect.specs.declared.query.Selection.{Selection}
 use Rattle.dataselect.specs.Order.{rank_at}
-use Rattle.dataselect.specs.Query.{is_named, is_selected}
+use Rattle.dataselect.specs.Query.{holds, is_named, is_selected}
 use Rattle.time_index.specs.declared.spot.Spot.{Spot}
 use Rattle.time_index.specs.declared.channels.Channel.{Channel}
 use Rattle.time_index.specs.Spots.{spot_cmp}
@@ -62,19 +68,37 @@ abbrev pub places_in : Selection → List (Nslc × Channel) → List ℕ
 places_in s [] = []
 places_in s (entry ∷ entries) = if is_named s entry.0 then places_at s entry.1 ++ places_in s entries else places_in s entries
 
--- and of each selection
-abbrev pub candidates : List (Nslc × Channel) → List Selection → List ℕ
-candidates entries [] = []
-candidates entries (s ∷ selections) = places_in s entries ++ candidates entries selections
+-- the one name whose codes these are, where there are four
+abbrev pub name_of_codes : Option (List ℕ) → Option (List ℕ) → Option (List ℕ) → Option (List ℕ) → Option Nslc
+name_of_codes None station location channel = None
+name_of_codes (Some network) None location channel = None
+name_of_codes (Some network) (Some station) None channel = None
+name_of_codes (Some network) (Some station) (Some location) None = None
+name_of_codes (Some network) (Some station) (Some location) (Some channel) =
+    Some (record { network = network; station = station; location = location; channel = channel })
+
+-- the one name that a selection without wildcards matches
+abbrev pub single_name : Selection → Option Nslc
+single_name s = name_of_codes (single_code s.network) (single_code s.station) (single_code s.location) (single_code s.channel)
+
+abbrev pub places_of_channel : Selection → Option Channel → List ℕ
+places_of_channel s None = []
+places_of_channel s (Some channel) = places_at s channel
+
+abbrev pub places_by : Option Nslc → Selection → BTreeMap Nslc Channel → List ℕ
+places_by None s channels = places_in s channels.entries
+places_by (Some name) s channels = places_of_channel s (get name_cmp channels name)
+
+-- the places of the rows that a selection names and whose time may meet its window
+abbrev pub window_places : Selection → BTreeMap Nslc Channel → List ℕ
+window_places s channels = places_by (single_name s) s channels
 
 abbrev pub is_place_among : ℕ → List ℕ → Bool
 is_place_among place places = list_any (λ p. p == place) places
 
--- the place of each row that some selection selects is among the places
-abbrev pub Cover : List Row → List Selection → List ℕ → Type 0
-Cover rows selections places =
-    (place : ℕ) (row : Row) → slice_get rows place ≡ Some row → list_any (λ s. is_selected s row.header) selections ≡ true
-    → is_place_among place places ≡ true
+-- the record has the asked quality
+abbrev pub is_of_quality : DataQuery → Header → Bool
+is_of_quality query h = holds (λ q. quality_letter q == quality_letter h.quality) query.quality
 
 abbrev pub rank_if : (Row → Bool) → ℕ → Option Row → List Rank → List Rank
 rank_if test place None ranks = ranks
@@ -84,3 +108,13 @@ rank_if test place (Some row) ranks = if test row then rank_at place row ∷ ran
 abbrev pub ranks_at : (Row → Bool) → List Row → List ℕ → List Rank
 ranks_at test rows [] = []
 ranks_at test rows (place ∷ places) = rank_if test place (slice_get rows place) (ranks_at test rows places)
+
+-- the row is seen, and of the query's selections that one asks for it
+abbrev pub passes_by : (Row → Bool) → DataQuery → Selection → Row → Bool
+passes_by seen query s row = seen row && (is_of_quality query row.header && is_selected s row.header)
+
+-- the ranks of the rows that the selections find, one selection after another
+abbrev pub ranks_found : (Row → Bool) → DataQuery → List Row → BTreeMap Nslc Channel → List Selection → List Rank
+ranks_found seen query rows channels [] = []
+ranks_found seen query rows channels (s ∷ selections) =
+    ranks_at (passes_by seen query s) rows (window_places s channels) ++ ranks_found seen query rows channels selections

@@ -1,7 +1,7 @@
 //! The shelf.
 ghost use Rattle.std.specs.Prelude.{◌≡◌, ℕ, ◌+◌, ◌-◌, ◌^◌, ◌<◌, ◌≤◌, true, [], ◌∷◌, ◌++◌, length, take, map, IfOk, OnOk, OnErr};
 ghost use Rattle.std.specs.Vec.{vec_len, vec_capacity};
-ghost use Rattle.dataselect.specs.Chosen.{chosen_places};
+ghost use Rattle.dataselect.specs.Chosen.{chosen_places, ranks_chosen};
 ghost use Rattle.dataselect.specs.HeldNames.{names_of};
 ghost use Rattle.std.specs.List.{list_any};
 ghost use Rattle.dataselect.specs.MergedSpans.{value_of, merged_spans_of, has_name};
@@ -9,26 +9,27 @@ ghost use Rattle.dataselect.specs.Places.{places_named};
 ghost use Rattle.dataselect.specs.Rows.{has_image, with_rows};
 ghost use Rattle.time_index.specs.Index.{IsChannelIndex};
 ghost use Rattle.time_index.specs.Spots.{spot_at};
-ghost use Rattle.time_index.specs.Windows.{Cover, is_place_among};
 
 use crate::channel_spans::{channel_places, channel_ranks};
 use crate::channels::{Channel, add_spot, remove_spot};
 use crate::doubles::is_twin;
 use crate::names::{has_name, names_matched};
 use crate::spot::{Spot, micros_lasted, spot_of};
-use crate::windows::{candidates, ranks_at};
+use crate::windows::{in_order, ranks_found, ranks_walked};
 use channel_globs::Nslc;
 use dataselect::{
-    DataQuery, Inserted, Selection, Shelf, Sight, Span, list_names, pick, places_of, spans_ranked,
+    DataQuery, Inserted, Rank, Selection, Shelf, Sight, Span, list_names, pick, places_of,
+    spans_ranked,
 };
 use exact_time::{Many, OutOfMemory};
 use mseed_header::Row;
 use std::alloc::Global;
-use std::collections::BTreeMap;
+use std::collections::{BTreeMap, BTreeSet};
 
 /// A shelf that finds its rows by channel and time, and keeps no spans: it makes them of its rows when they are
-/// asked for. An insertion costs a logarithm, and a query the rows of its windows. A sender who makes many records of one channel with one start and one fingerprint
-/// costs time alone: each of them is compared with the others byte by byte.
+/// asked for. An insertion costs a logarithm, and a query the rows of the windows of its selections. A sender who
+/// makes many records of one channel with one start and one fingerprint costs time alone: each of them is compared
+/// with the others byte by byte.
 #[derive(Drop)]
 pub struct TimeIndex {
     alloc: Global,
@@ -47,17 +48,6 @@ fn put(rows: &mut Vec<Row>, row: Row)
         Ok(()) => (),
         Err(_) => (),
     }
-}
-
-// The places of all rows.
-fn all_places(alloc: Global, len: usize) -> Result<Many<usize>, OutOfMemory>
-    ensures { IfOk result (λ places. (i : ℕ) → i < len → is_place_among i places ≡ true) }
-{
-    let mut places = Many::new(alloc);
-    'places: for place in 0..len {
-        places.push(place)?;
-    }
-    Ok(places)
 }
 
 impl TimeIndex {
@@ -139,14 +129,21 @@ impl TimeIndex {
         Ok(())
     }
 
-    // Places among which are those of all rows that some selection selects. Where many selections name
-    // the same rows, a walk over all rows is no dearer.
-    fn places_to_test(&self, selections: &[Selection]) -> Result<Many<usize>, OutOfMemory>
-        ensures { IfOk result (λ places. Cover self.now.rows.items selections.now places) }
+    // The ranks of the rows that are seen and asked for, in order. Where many selections ask for the same rows, a
+    // walk over all rows is no dearer.
+    fn ranks_chosen<V: Sight>(
+        &self,
+        sight: &V,
+        query: &DataQuery,
+    ) -> Result<BTreeSet<Rank>, OutOfMemory>
+        ensures { IfOk result (λ ranks. ranks.keys ≡ ranks_chosen (V.seen sight.now) query.now self.now.rows.items) }
     {
-        match candidates(self.alloc, &self.channels, selections, self.rows.len())? {
-            Some(places) => Ok(places),
-            None => all_places(self.alloc, self.rows.len()),
+        match ranks_found(self.alloc, &self.rows, &self.channels, sight, query)? {
+            Some(ranks) => in_order(self.alloc, ranks),
+            None => {
+                let ranks = ranks_walked(self.alloc, &self.rows, sight, query)?;
+                in_order(self.alloc, ranks)
+            }
         }
     }
 
@@ -154,8 +151,7 @@ impl TimeIndex {
     fn chosen<V: Sight>(&self, sight: &V, query: &DataQuery) -> Result<Many<usize>, OutOfMemory>
         ensures { IfOk result (λ places. places ≡ chosen_places (V.seen sight.now) query.now self.now.rows.items) }
     {
-        let places = self.places_to_test(query.selections.as_slice())?;
-        let ranks = ranks_at(self.alloc, &self.rows, places.as_slice(), sight, query)?;
+        let ranks = self.ranks_chosen(sight, query)?;
         places_of(self.alloc, &ranks)
     }
 }

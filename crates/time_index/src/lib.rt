@@ -21,8 +21,6 @@ mod kinds;
 mod names;
 mod shelf;
 mod spot;
-#[cfg(test)]
-mod tests;
 mod wholes;
 mod windows;
 

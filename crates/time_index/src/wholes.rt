@@ -5,9 +5,10 @@ ghost use Rattle.channel_globs.specs.declared.nslc.Nslc.{Nslc};
 ghost use Rattle.channel_globs.specs.Names.{name_cmp};
 ghost use Rattle.dataselect.specs.Chosen.{passes};
 ghost use Rattle.time_index.specs.Wholes.{SeesAll};
+ghost use Rattle.time_index.specs.Windows.{passes_by};
 
 use channel_globs::Nslc;
-use dataselect::{DataQuery, Sight};
+use dataselect::{DataQuery, Selection, Sight};
 use exact_time::OutOfMemory;
 use mseed_header::Row;
 use std::alloc::Global;
@@ -46,12 +47,32 @@ impl<'a, V: Sight> Wholes<'a, V> {
         Ok(whole)
     }
 
+    // Whether the row is seen.
+    fn sees(&mut self, row: &Row) -> Result<bool, OutOfMemory>
+        ensures seen { IfOk result (λ seen. seen ≡ V.seen self.old.sight.now row.now) }
+        ensures sight { self.new.sight.now ≡ self.old.sight.now }
+    {
+        Ok(self.is_whole(&row.header.name)? || self.sight.sees(row))
+    }
+
+    /// Whether the row is seen, and that selection of the query asks for it.
+    pub fn is_chosen(
+        &mut self,
+        query: &DataQuery,
+        selection: &Selection,
+        row: &Row,
+    ) -> Result<bool, OutOfMemory>
+        ensures chosen { IfOk result (λ chosen. chosen ≡ passes_by (V.seen self.old.sight.now) query.now selection.now row.now) }
+        ensures sight { self.new.sight.now ≡ self.old.sight.now }
+    {
+        Ok(self.sees(row)? && query.has_quality(&row.header) && selection.selects(&row.header))
+    }
+
     /// Whether the row is seen and asked for.
-    pub fn is_chosen(&mut self, query: &DataQuery, row: &Row) -> Result<bool, OutOfMemory>
+    pub fn is_asked_for(&mut self, query: &DataQuery, row: &Row) -> Result<bool, OutOfMemory>
         ensures chosen { IfOk result (λ chosen. chosen ≡ passes (V.seen self.old.sight.now) query.now row.now) }
         ensures sight { self.new.sight.now ≡ self.old.sight.now }
     {
-        let seen = self.is_whole(&row.header.name)? || self.sight.sees(row);
-        Ok(seen && query.asks(&row.header))
+        Ok(self.sees(row)? && query.asks(&row.header))
     }
 }

@@ -1,10 +1,10 @@
-//! The places of the rows that a window may have.
-ghost use Rattle.std.specs.Prelude.{◌≡◌, ◌++◌, ◌<◌, IsNone, OnOk, IfOk, IfSome, [], length};
+//! The rows that the windows of selections find.
+ghost use Rattle.std.specs.Prelude.{◌≡◌, ℕ, ◌++◌, ◌<◌, List, IsNone, OnOk, IfOk, IfSome, [], length};
 ghost use Rattle.std.specs.List.{slice_get};
 ghost use Rattle.list_laws.specs.InOrder.{in_order};
-ghost use Rattle.dataselect.specs.Chosen.{passes};
+ghost use Rattle.dataselect.specs.Chosen.{passes, ranks_from};
 ghost use Rattle.dataselect.specs.Order.{rank_cmp};
-ghost use Rattle.time_index.specs.Windows.{first_spot_at, lower_of, upper_of, from_bound, to_bound, is_forward, places_between, places_at, places_in, candidates, rank_if, ranks_at};
+ghost use Rattle.time_index.specs.Windows.{first_spot_at, lower_of, upper_of, from_bound, to_bound, is_forward, places_between, places_at, places_in, single_name, places_by, window_places, passes_by, rank_if, ranks_at, ranks_found};
 
 use crate::channels::Channel;
 use crate::spot::Spot;
@@ -109,8 +109,8 @@ fn add_channel(
     add_between(places, &channel.spots, lower, upper)
 }
 
-// Adds the places of the rows that the selection names and whose time may meet its window.
-fn add_window(
+// Adds the places of the rows of each channel that the selection names and whose time may meet its window.
+fn add_channels(
     places: &mut Many<usize>,
     channels: &BTreeMap<Nslc, Channel>,
     selection: &Selection,
@@ -125,62 +125,148 @@ fn add_window(
     Ok(())
 }
 
-/// The places of the rows that may meet some selection's window, where they aren't many more than `most`:
-/// a row that several selections name comes several times.
-pub fn candidates(
-    alloc: Global,
-    channels: &BTreeMap<Nslc, Channel>,
-    selections: &[Selection],
-    most: usize,
-) -> Result<Option<Many<usize>>, OutOfMemory>
-    ensures some { IfOk result (λ found. IfSome found (λ places. places ≡ candidates channels.now.entries selections.now)) }
-    ensures none { IfOk result (λ found. IsNone found → most < length (candidates channels.now.entries selections.now)) }
+/// The one name that the selection names, where it has no wildcard.
+pub fn single_name(selection: &Selection) -> Option<Nslc>
+    ensures { result ≡ single_name selection.now }
 {
-    let mut places = Many::new(alloc);
-    'selections: for selection in selections {
-        if most < places.len() {
-            return Ok(None);
-        }
-        add_window(&mut places, channels, selection)?;
-    }
-    Ok(Some(places))
+    Some(Nslc {
+        network: selection.network.single()?,
+        station: selection.station.single()?,
+        location: selection.location.single()?,
+        channel: selection.channel.single()?,
+    })
 }
 
-// Adds the rank of the row at a place, if it is seen and asked for.
+// Adds the places of the rows that the selection names and whose time may meet its window. The channel of one
+// name is looked up.
+fn add_window(
+    places: &mut Many<usize>,
+    channels: &BTreeMap<Nslc, Channel>,
+    selection: &Selection,
+) -> Result<(), OutOfMemory>
+    ensures ok { OnOk result (places.new ≡ places.old ++ window_places selection.now channels.now) }
+{
+    let Some(name) = single_name(selection) else {
+        return add_channels(places, channels, selection);
+    };
+    match channels.get(&name) {
+        Some(channel) => add_channel(places, channel, selection),
+        None => Ok(()),
+    }
+}
+
+// Adds the rank of the row at a place, if it is seen and that selection of the query asks for it.
 fn add_rank<V: Sight>(
-    ranks: &mut BTreeSet<Rank>,
+    ranks: &mut Many<Rank>,
     wholes: &mut Wholes<'_, V>,
     rows: &[Row],
     place: usize,
     query: &DataQuery,
+    selection: &Selection,
 ) -> Result<(), OutOfMemory>
-    ensures ok { OnOk result (ranks.new.keys ≡ in_order rank_cmp ranks.old.keys (rank_if (passes (V.seen wholes.old.sight.now) query.now) place (slice_get rows.now place) [])) }
+    ensures ok { OnOk result (ranks.new ≡ ranks.old ++ rank_if (passes_by (V.seen wholes.old.sight.now) query.now selection.now) place (slice_get rows.now place) []) }
     ensures sight { wholes.new.sight.now ≡ wholes.old.sight.now }
 {
     let Some(row) = rows.get(place) else {
         return Ok(());
     };
-    let chosen = wholes.is_chosen(query, row)?;
+    let chosen = wholes.is_chosen(query, selection, row)?;
     if chosen {
-        ranks.insert(rank_of(place, row))?;
+        ranks.push(rank_of(place, row))?;
     }
     Ok(())
 }
 
-/// The ranks of the rows at these places that are seen and asked for, in order, each once.
-pub fn ranks_at<V: Sight>(
-    alloc: Global,
+// Adds the ranks of the rows at these places that are seen and that the selection asks for.
+fn add_ranks<V: Sight>(
+    ranks: &mut Many<Rank>,
+    wholes: &mut Wholes<'_, V>,
     rows: &[Row],
     places: &[usize],
+    query: &DataQuery,
+    selection: &Selection,
+) -> Result<(), OutOfMemory>
+    ensures ok { OnOk result (ranks.new ≡ ranks.old ++ ranks_at (passes_by (V.seen wholes.old.sight.now) query.now selection.now) rows.now places.now) }
+    ensures sight { wholes.new.sight.now ≡ wholes.old.sight.now }
+{
+    'places: for place in places {
+        add_rank(ranks, wholes, rows, *place, query, selection)?;
+    }
+    Ok(())
+}
+
+// Adds the ranks of the rows that a selection finds.
+fn add_found<V: Sight>(
+    alloc: Global,
+    ranks: &mut Many<Rank>,
+    wholes: &mut Wholes<'_, V>,
+    rows: &[Row],
+    channels: &BTreeMap<Nslc, Channel>,
+    query: &DataQuery,
+    selection: &Selection,
+) -> Result<(), OutOfMemory>
+    ensures ok { OnOk result (ranks.new ≡ ranks.old ++ ranks_at (passes_by (V.seen wholes.old.sight.now) query.now selection.now) rows.now (window_places selection.now channels.now)) }
+    ensures sight { wholes.new.sight.now ≡ wholes.old.sight.now }
+{
+    let mut places = Many::new(alloc);
+    add_window(&mut places, channels, selection)?;
+    add_ranks(ranks, wholes, rows, places.as_slice(), query, selection)
+}
+
+/// The ranks of the rows that the selections find, where they aren't many more than there are rows: a row that
+/// several selections ask for comes several times. Each row is tested against the selection alone that found it.
+pub fn ranks_found<V: Sight>(
+    alloc: Global,
+    rows: &[Row],
+    channels: &BTreeMap<Nslc, Channel>,
     sight: &V,
     query: &DataQuery,
-) -> Result<BTreeSet<Rank>, OutOfMemory>
-    ensures { IfOk result (λ ranks. ranks.keys ≡ in_order rank_cmp [] (ranks_at (passes (V.seen sight.now) query.now) rows.now places.now)) }
+) -> Result<Option<Many<Rank>>, OutOfMemory>
+    ensures some { IfOk result (λ found. IfSome found (λ ranks. ranks ≡ ranks_found (V.seen sight.now) query.now rows.now channels.now query.now.selections)) }
+    ensures none { IfOk result (λ found. IsNone found → length rows.now < length (ranks_found (V.seen sight.now) query.now rows.now channels.now query.now.selections)) }
 {
-    let mut ranks = BTreeSet::new(alloc);
+    let mut ranks = Many::new(alloc);
     let mut wholes = Wholes::new(alloc, sight);
-    'places: for place in places {
-        add_rank(&mut ranks, &mut wholes, rows, *place, query)?;
+    'selections: for selection in query.selections.as_slice() {
+        if rows.len() < ranks.len() {
+            return Ok(None);
+        }
+        add_found(
+            alloc,
+            &mut ranks,
+            &mut wholes,
+            rows,
+            channels,
+            query,
+            selection,
+        )?;
+    }
+    Ok(Some(ranks))
+}
+
+/// The ranks of the rows that are seen and asked for, found by a walk over all rows.
+pub fn ranks_walked<V: Sight>(
+    alloc: Global,
+    rows: &[Row],
+    sight: &V,
+    query: &DataQuery,
+) -> Result<Many<Rank>, OutOfMemory>
+    ensures { IfOk result (λ ranks. ranks ≡ ranks_from (V.seen sight.now) query.now 0 rows.now) }
+{
+    let mut ranks = Many::new(alloc);
+    let mut wholes = Wholes::new(alloc, sight);
+    'rows: for (place, row) in rows.iter().enumerate() {
+        if wholes.is_asked_for(query, row)? {
+            ranks.push(rank_of(place, row))?;
+        }
     }
     Ok(ranks)
+}
+
+/// Ranks in order, each once.
+pub fn in_order(alloc: Global, ranks: Many<Rank>) -> Result<BTreeSet<Rank>, OutOfMemory>
+    ensures { IfOk result (λ set. set.keys ≡ in_order rank_cmp [] ranks) }
+{
+    let set = ranks.into_vec().into_iter().collect(alloc)?;
+    Ok(set)
 }

@@ -19,8 +19,6 @@ mod place;
 mod publishing;
 mod shares;
 mod step;
-#[cfg(test)]
-mod tests;
 mod view;
 
 pub use carries::Carries;

@@ -43,4 +43,18 @@ impl<J: Naming> Step<J> {
     {
         &self.entry
     }
+
+    /// The history before the entry.
+    pub fn before(&self) -> &Front<J>
+        ensures { result.now ≡ self.now.0 }
+    {
+        &self.before
+    }
+
+    /// The history behind the entry.
+    pub fn after(&self) -> &Front<J>
+        ensures { result.now ≡ self.now.0 ++ self.now.1 ∷ [] }
+    {
+        &self.after
+    }
 }

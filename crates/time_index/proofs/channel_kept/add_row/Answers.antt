@@ -1,4 +1,4 @@
-use Rattle.std.proofs.Common.{rules, ◌≡◌, ◌∙◌, sym, ap, subst, Result, Ok, Err, OnErr, Some}
+use Rattle.std.proofs.Common.{rules, sym, Result, Ok, Err, OnErr}
 use Rattle.time_index.proofs.KeptStep.{all_grown, all_same, puts_row}
 use Rattle.time_index.proofs.channel_kept.add_row.Goals as goal
 

@@ -1,11 +1,3 @@
-use Rattle.std.proofs.Common.{◌≡◌, ◌∙◌, subst, sym, ap, cond, List, []}
-use Rattle.std.specs.Ordering.{is_eq}
-use Rattle.std.specs.List.{AllByRecursion}
-use Rattle.list_laws.specs.Mending.{AreSpread}
-use Rattle.time_index.specs.Kept.{kind_cmp, kind_of, kept_of, kept_mend, from, upto}
-use Rattle.time_index.specs.Kept as kept
-use Rattle.time_index.specs.declared.kept.Kept.{Kept}
-use Rattle.time_index.specs.declared.kind.Kind.{Kind}
 use Rattle.time_index.proofs.KeptStep.{none_kept, all_grown, puts_row}
 use Rattle.time_index.proofs.channel_kept.begin.Goals as goal
 

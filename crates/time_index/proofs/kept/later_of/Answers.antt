@@ -1,4 +1,4 @@
-use Rattle.std.proofs.Common.{◌≡◌, ◌∙◌, pos, ◌*ℤ◌, sym, ap, nat_cmp, true, false}
+use Rattle.std.proofs.Common.{◌≡◌, ◌∙◌, pos, ◌*ℤ◌, sym, ap}
 use Rattle.std.specs.Ordering.{int_cmp, ordering_then, is_lt}
 use Rattle.exact_time.specs.SampleTime.{sample_micros, sample_parts}
 use Rattle.time_index.specs.Kept.{mark_cmp}

@@ -1,4 +1,4 @@
-use Rattle.std.proofs.Common.{rules, ◌≡◌, sym, ap, subst, Option, Some, Result, Ok, Err, OnErr, Ordering}
+use Rattle.std.proofs.Common.{rules, ◌≡◌, sym, subst, Option, Some, Result, Ok, Err, OnErr, Ordering}
 use Rattle.std.specs.BTreeMap.{BTreeMap, get}
 use Rattle.exact_time.specs.declared.moment.Moment.{Moment}
 use Rattle.list_laws.specs.Mending.{AreSpread}

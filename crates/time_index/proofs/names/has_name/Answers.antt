@@ -1,4 +1,4 @@
-use Rattle.std.proofs.Common.{rules, ◌≡◌, ◌∙◌, sym, ap, Some, None}
+use Rattle.std.proofs.Common.{◌∙◌, ap}
 use Rattle.time_index.proofs.NamesFound.{full, name_found}
 use Rattle.time_index.proofs.names.has_name.Goals as goal
 

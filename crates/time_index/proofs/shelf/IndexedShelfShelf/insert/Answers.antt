@@ -1,4 +1,4 @@
-use Rattle.std.proofs.Common.{◌≡◌, ◌∙◌, ◌++◌, ◌∷◌, ◌-◌, [], List, ℕ, length, take, sym, ap, subst, Some}
+use Rattle.std.proofs.Common.{◌≡◌, ◌∙◌, ◌++◌, ◌∷◌, ◌-◌, [], List, ℕ, length, take, sym, ap, subst}
 use Rattle.std.specs.List.{slice_get}
 use Rattle.channel_globs.specs.declared.nslc.Nslc.{Nslc}
 use Rattle.mseed_header.specs.declared.row.Row.{Row}

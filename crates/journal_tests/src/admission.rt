@@ -1,0 +1,302 @@
+//! Verdicts and next entries over small archives, with ample memory.
+ghost use Rattle.std.specs.Prelude.{◌≡◌, true, IfOk, OnOk};
+ghost use Rattle.archive_state.specs.Admits.{StandsForSome};
+ghost use Rattle.archive_state.specs.Limits.{is_limit};
+
+use access_digest::Denial;
+use archive_entry::{Entry, Kind};
+use archive_state::{Admit, Limits, Posted, Verdict, founding_body};
+use epoch_rules::Rule;
+use epochs::LineFault;
+use exact_time::{Bytes, Moment, OutOfMemory, Text};
+use http_digest::{Credentials, Secret};
+use mseed_header::RecordFault;
+use std::alloc::Global;
+use std::test::Fail;
+
+mod states;
+
+const HA1: &str = "939e7578ed9e3c518a452acee763bce9";
+
+const USERS: &str =
+    "USR|feed1|939e7578ed9e3c518a452acee763bce9|feed\nUSR|ada|939e7578ed9e3c518a452acee763bce9|reader\n";
+
+const SECRET: Secret = Secret {
+    bytes: [0, 1, 2, 3, 4, 5, 6, 7, 8, 9, 10, 11, 12, 13, 14, 15],
+};
+
+// 2024-03-01T00:00:00
+const NOW: Moment = Moment {
+    micros: 1_709_251_200_000_000,
+};
+
+const TARGET: &str = "/feed/1/batch?seq=1";
+
+// What a user with that HA1 answers a challenge of that secret and that moment, made with Python's hashlib.
+const ANSWER: &str =
+    r#"realm="FDSN", nonce="0000000065e11a80c4b9ad505cad33331a9629a94b60ee48", uri="/feed/1/batch?seq=1", response="898446931261210deff9aff8321f61b9""#;
+
+// The head of a record: IU ANMO 00 BHZ, quality D, 100 samples at 20 Hz from 2024-02-01T00:00:00.
+const ANMO_HEAD: [u8; 56] = [
+    0x30, 0x30, 0x30, 0x30, 0x30, 0x31, 0x44, 0x20, 0x41, 0x4e, 0x4d, 0x4f, 0x20, 0x30, 0x30, 0x42,
+    0x48, 0x5a, 0x49, 0x55, 0x07, 0xe8, 0x00, 0x20, 0x00, 0x00, 0x00, 0x00, 0x00, 0x00, 0x00, 0x64,
+    0x00, 0x14, 0x00, 0x01, 0x00, 0x00, 0x00, 0x01, 0x00, 0x00, 0x00, 0x00, 0x00, 0x40, 0x00, 0x30,
+    0x03, 0xe8, 0x00, 0x00, 0x0a, 0x01, 0x09, 0x00,
+];
+
+fn anmo_record() -> [u8; 512] {
+    let mut record = [0; 512];
+    record[..56].copy_from_slice(&ANMO_HEAD);
+    record
+}
+
+// Two samples at 3 Hz in its place.
+fn slow_record() -> [u8; 512] {
+    let mut record = anmo_record();
+    record[30..36].copy_from_slice(&[0, 2, 0, 3, 0, 1]);
+    record
+}
+
+fn bytes(alloc: Global, piece: &[u8]) -> Result<Bytes, Fail> {
+    let mut bytes = Bytes::new(alloc);
+    bytes.extend(piece)?;
+    Ok(bytes)
+}
+
+// What a user sends; the kind goes with it.
+#[derive(Clone, Copy)]
+struct Sent<'a> {
+    name: &'a str,
+    seq: u64,
+    kind: Kind,
+    body: &'a [u8],
+}
+
+fn batch<'a>(name: &'a str, seq: u64, body: &'a [u8]) -> Sent<'a> {
+    Sent {
+        name,
+        seq,
+        kind: Kind::Batch,
+        body,
+    }
+}
+
+fn revision<'a>(name: &'a str, seq: u64, body: &'a [u8]) -> Sent<'a> {
+    Sent {
+        name,
+        seq,
+        kind: Kind::Revise,
+        body,
+    }
+}
+
+fn entry_of(alloc: Global, number: u64, moment: Moment, sent: Sent<'_>) -> Result<Entry, Fail> {
+    let mut author = Text::new(alloc);
+    author.push(sent.name)?;
+    Ok(Entry {
+        number,
+        moment,
+        author,
+        seq: sent.seq,
+        kind: sent.kind,
+        body: bytes(alloc, sent.body)?,
+    })
+}
+
+// Takes an entry in, which has to be the next one.
+fn take(admit: &mut Admit, entry: &Entry) -> Result<(), Fail>
+    requires { StandsForSome admit.old }
+    ensures { StandsForSome admit.new }
+{
+    match admit.next_lawful(entry) {
+        Ok(true) => match admit.note(entry) {
+            Ok(()) => Ok(()),
+            Err(OutOfMemory) => Err("out of memory".into()),
+        },
+        Ok(false) => Err("not the next entry".into()),
+        Err(OutOfMemory) => Err("out of memory".into()),
+    }
+}
+
+// The archive of the operator op and the users feed1 and ada.
+fn users(alloc: Global) -> Result<Admit, Fail>
+    ensures { IfOk result (λ admit. StandsForSome admit) }
+{
+    let mut admit = Admit::new(alloc);
+    let body = founding_body(alloc, b"op", HA1.as_bytes())?;
+    let first = Moment { micros: 0 };
+    let founding = entry_of(alloc, 1, first, revision("op", 0, body.as_slice()))?;
+    take(&mut admit, &founding)?;
+    let second = entry_of(alloc, 2, NOW, revision("op", 1, USERS.as_bytes()))?;
+    take(&mut admit, &second)?;
+    Ok(admit)
+}
+
+// The entry that brings a record, by feed1.
+fn first_batch(alloc: Global) -> Result<Entry, Fail> {
+    entry_of(alloc, 3, NOW, batch("feed1", 1, &anmo_record()))
+}
+
+// That archive with this entry.
+fn one_batch(alloc: Global) -> Result<Admit, Fail>
+    ensures { IfOk result (λ admit. StandsForSome admit) }
+{
+    let mut admit = users(alloc)?;
+    let third = first_batch(alloc)?;
+    take(&mut admit, &third)?;
+    Ok(admit)
+}
+
+fn credentials(alloc: Global, name: &str) -> Result<Credentials, Fail> {
+    let header = format!(in alloc; "Digest username=\"{name}\", {ANSWER}")?;
+    Ok(Credentials {
+        header: Some(bytes(alloc, header.as_bytes())?),
+        method: bytes(alloc, b"POST")?,
+        target: bytes(alloc, TARGET.as_bytes())?,
+    })
+}
+
+fn limits(max_records: u64, max_archive: u64) -> Limits
+    requires records { is_limit 2_097_152 max_records ≡ true }
+    requires archive { is_limit 536_870_912 max_archive ≡ true }
+{
+    Limits {
+        max_bytes: 67_108_864,
+        max_lines: 100_000,
+        max_records,
+        max_archive,
+    }
+}
+
+fn judged(
+    alloc: Global,
+    admit: &Admit,
+    sent: Sent<'_>,
+    earlier: Option<&Entry>,
+    limits: &Limits,
+) -> Result<Verdict, Fail> {
+    let posted = Posted {
+        credentials: credentials(alloc, sent.name)?,
+        kind: sent.kind,
+        seq: sent.seq,
+        body: bytes(alloc, sent.body)?,
+    };
+    match admit.judge(&posted, earlier, NOW, &SECRET, limits) {
+        Ok(verdict) => Ok(verdict),
+        Err(OutOfMemory) => Err("out of memory".into()),
+    }
+}
+
+#[test]
+fn repeats_and_gaps_are_told(rt: HostRuntime) -> Result<(), Fail> {
+    let alloc = rt.alloc();
+    let full = Limits::FULL;
+    let (anmo, slow) = (anmo_record(), slow_record());
+    let admit = users(alloc)?;
+    let new = judged(alloc, &admit, batch("feed1", 1, &anmo), None, &full)?;
+    assert_eq!(rt; new, Verdict::Accept(3));
+    let admit = one_batch(alloc)?;
+    let third = first_batch(alloc)?;
+    let earlier = Some(&third);
+    let again = judged(alloc, &admit, batch("feed1", 1, &anmo), earlier, &full)?;
+    assert_eq!(rt; again, Verdict::Repeat(3));
+    let other = judged(alloc, &admit, batch("feed1", 1, &slow), earlier, &full)?;
+    assert_eq!(rt; other, Verdict::OtherBody(3));
+    let gap = judged(alloc, &admit, batch("feed1", 3, &anmo), None, &full)?;
+    assert_eq!(rt; gap, Verdict::Gap(1));
+    let next = judged(alloc, &admit, batch("feed1", 2, &anmo), None, &full)?;
+    assert_eq!(rt; next, Verdict::Accept(4));
+    Ok(())
+}
+
+#[test]
+fn users_post_by_their_roles(rt: HostRuntime) -> Result<(), Fail> {
+    let alloc = rt.alloc();
+    let full = Limits::FULL;
+    let anmo = anmo_record();
+    let network = b"NET|IU|GSN|1988-01-01|\n";
+    let admit = users(alloc)?;
+    for sent in [
+        batch("ada", 1, &anmo),
+        batch("op", 2, &anmo),
+        revision("feed1", 1, network),
+        revision("ada", 1, network),
+    ] {
+        assert_eq!(rt; judged(alloc, &admit, sent, None, &full)?, Verdict::Role);
+    }
+    let revised = judged(alloc, &admit, revision("op", 2, network), None, &full)?;
+    assert_eq!(rt; revised, Verdict::Accept(3));
+    let unknown = judged(alloc, &admit, batch("bob", 1, &anmo), None, &full)?;
+    assert_eq!(rt; unknown, Verdict::Denied(Denial::UnknownUser));
+    Ok(())
+}
+
+#[test]
+fn bodies_are_judged(rt: HostRuntime) -> Result<(), Fail> {
+    let alloc = rt.alloc();
+    let full = Limits::FULL;
+    let short = Verdict::BadRecord {
+        at: 0,
+        fault: RecordFault::Short,
+    };
+    let admit = users(alloc)?;
+    let none = judged(alloc, &admit, batch("feed1", 1, b""), None, &full)?;
+    assert_eq!(rt; none, short);
+    let cut = judged(
+        alloc,
+        &admit,
+        batch("feed1", 1, b"000001D ANMO"),
+        None,
+        &full,
+    )?;
+    assert_eq!(rt; cut, short);
+    let silent = judged(
+        alloc,
+        &admit,
+        revision("op", 2, b"# nothing\n"),
+        None,
+        &full,
+    )?;
+    let fault = LineFault::NoLine;
+    assert_eq!(rt; silent, Verdict::BadLine { line: 1, fault });
+    let lines =
+        b"# a channel without a station\nNET|XX|Test|2000-01-01|\nCHA|IU|ANMO|00|BHZ|34.9459|-106.4572|1850|0|0|-90|STS-1|||M/S|20|2000-01-01|\n";
+    let broken = judged(alloc, &admit, revision("op", 2, lines), None, &full)?;
+    let rule = Rule::NoStationEpoch;
+    assert_eq!(rt; broken, Verdict::Broken { line: 3, rule });
+    Ok(())
+}
+
+#[test]
+fn archives_are_full(rt: HostRuntime) -> Result<(), Fail> {
+    let alloc = rt.alloc();
+    let slow = slow_record();
+    let next = batch("feed1", 2, &slow);
+    let admit = one_batch(alloc)?;
+    let records = judged(alloc, &admit, next, None, &limits(1, 536_870_912))?;
+    assert_eq!(rt; records, Verdict::FullRecords(2));
+    // bodies of 49, 96 and 512 bytes, and this one
+    let exact = judged(alloc, &admit, next, None, &limits(2, 1169))?;
+    assert_eq!(rt; exact, Verdict::Accept(4));
+    let bytes = judged(alloc, &admit, next, None, &limits(2, 1168))?;
+    assert_eq!(rt; bytes, Verdict::FullBytes(1169));
+    Ok(())
+}
+
+#[test]
+fn an_entry_is_the_next_one_once(rt: HostRuntime) -> Result<(), Fail> {
+    let alloc = rt.alloc();
+    let third = first_batch(alloc)?;
+    let admit = users(alloc)?;
+    assert_eq!(rt; admit.next_lawful(&third), Ok(true));
+    assert_eq!(rt; (admit.count(), admit.earlier(b"feed1", 1)), (2, None));
+    let admit = one_batch(alloc)?;
+    assert_eq!(rt; admit.next_lawful(&third), Ok(false));
+    assert_eq!(rt; (admit.count(), admit.earlier(b"feed1", 1)), (3, Some(3)));
+    assert_eq!(rt;
+        (admit.earlier(b"op", 1), admit.earlier(b"feed1", 2)),
+        (Some(2), None)
+    );
+    assert_eq!(rt; admit.catalog().lines().len(), 3);
+    Ok(())
+}

@@ -1,0 +1,181 @@
+//! Ports in memory and over TCP.
+use exact_time::{Bytes, Failed, Many, Moment};
+use http_wire::Turn;
+use link_ports::{MemoryPort, Port, Returned, TcpPort};
+use std::alloc::Global;
+use std::io::{Read, Write};
+use std::net::{Ipv4Addr, Net, Shutdown, SocketAddr, TcpListener, TcpStream};
+use std::process::Abort;
+use std::test::Fail;
+use std::thread::join;
+use std::time::{Clock, Duration};
+use streams::{MemoryLink, Sink, Source, Stream};
+
+const TURN: Turn = Turn {
+    front: 3,
+    moment: Moment { micros: 0 },
+    entry: None,
+    short: false,
+};
+
+// A link that gives this piece.
+fn link_of(alloc: Global, piece: &[u8]) -> Result<MemoryLink, Fail> {
+    let mut bytes = Bytes::new(alloc);
+    bytes.extend(piece)?;
+    let mut pieces = Many::new(alloc);
+    pieces.push(bytes)?;
+    Ok(MemoryLink::new(alloc, pieces, Many::new(alloc)))
+}
+
+// The first byte that a link gives.
+fn first_of(link: &mut MemoryLink) -> Option<u8> {
+    let mut byte = [0];
+    match link.take(&mut byte) {
+        Ok(1) => Some(byte[0]),
+        _ => None,
+    }
+}
+
+// A port with two links, whose second `accept` fails.
+fn port_of_two(alloc: Global) -> Result<MemoryPort<MemoryLink>, Fail> {
+    let mut links = Many::new(alloc);
+    links.push(link_of(alloc, b"A")?)?;
+    links.push(link_of(alloc, b"B")?)?;
+    let mut fails = Many::new(alloc);
+    fails.push(2)?;
+    Ok(MemoryPort::new(alloc, links, fails))
+}
+
+#[test]
+fn links_come_in_order_and_go_back(rt: HostRuntime) -> Result<(), Fail> {
+    let alloc = rt.alloc();
+    let mut port = port_of_two(alloc)?;
+    let Ok(Some(mut first)) = port.accept() else {
+        return Err("no first link".into());
+    };
+    assert_eq!(rt; first_of(&mut first), Some(b'A'));
+    assert!(rt; matches!(port.accept(), Err(Failed)));
+    let Ok(Some(mut second)) = port.accept() else {
+        return Err("no second link".into());
+    };
+    assert_eq!(rt; first_of(&mut second), Some(b'B'));
+    assert!(rt; matches!(port.accept(), Ok(None)));
+    port.give_back(second, &[TURN]);
+    port.give_back(first, &[]);
+    let Some([one, two]) = port.back() else {
+        return Err("not two links came back".into());
+    };
+    assert_eq!(rt; (one.turns.as_slice(), two.turns.len()), (&[TURN][..], 0));
+    Ok(())
+}
+
+// An address at which nobody listens.
+fn free_address<R: Net<Listener = TcpListener, Stream = TcpStream>>(
+    rt: &R,
+) -> Result<SocketAddr, Fail> {
+    let any = SocketAddr::from((Ipv4Addr::LOCALHOST, 0));
+    Ok(TcpListener::bind(rt, any)?.local_addr()?)
+}
+
+// Connects once somebody listens.
+fn connect<R: Net<Listener = TcpListener, Stream = TcpStream> + Clock>(
+    rt: &R,
+    address: SocketAddr,
+) -> Result<TcpStream, Fail> {
+    for _ in 0..500u32 {
+        if let Ok(stream) = TcpStream::connect(rt, address) {
+            return Ok(stream);
+        }
+        std::thread::sleep(rt, Duration::from_millis(10));
+    }
+    Err("nobody listens".into())
+}
+
+// Sends a byte a connection, and reads what comes back.
+fn ask<R: Net<Listener = TcpListener, Stream = TcpStream> + Clock>(
+    rt: &R,
+    address: SocketAddr,
+    times: u64,
+) -> Result<u64, Fail> {
+    let mut answers: u64 = 0;
+    'times: for _ in 0..times {
+        let mut stream = connect(rt, address)?;
+        stream.write_all(b"?")?;
+        stream.shutdown(Shutdown::Write)?;
+        let mut answer = [0; 2];
+        if stream.read(&mut answer)? == 1 && answer[0] == b'!' {
+            answers = answers.saturating_add(1);
+        }
+    }
+    Ok(answers)
+}
+
+// Takes a byte from each link and puts one, until the port closes: how many it took, and the faults of the links.
+fn serve<P: Port>(port: &mut P, links: u64) -> (u64, u64) {
+    let mut taken: u64 = 0;
+    let mut faults: u64 = 0;
+    'links: for _ in 0..links {
+        let Ok(Some(mut link)) = port.accept() else {
+            return (taken, faults);
+        };
+        let mut byte = [0];
+        if link.take(&mut byte) == Ok(1) && link.put(b"!") == Ok(1) {
+            taken = taken.saturating_add(1);
+        }
+        faults = faults.saturating_add(link.faults());
+        port.give_back(link, &[]);
+    }
+    (taken, faults)
+}
+
+#[test]
+fn a_hundred_connections_one_after_another(rt: HostRuntime) -> Result<(), Fail> {
+    let shared = &rt;
+    let address = free_address(shared)?;
+    let mut port = TcpPort::new(shared, Some(address), Some(100));
+    let (served, answers) = join(
+        shared,
+        || serve(&mut port, 1000),
+        || ask(shared, address, 100),
+    );
+    assert_eq!(rt; served, (100, 0));
+    assert_eq!(rt; answers?, 100);
+    assert!(rt; matches!(port.accept(), Ok(None)));
+    Ok(())
+}
+
+// Says nothing until the other end closes.
+fn stay_silent<R: Net<Listener = TcpListener, Stream = TcpStream> + Clock>(
+    rt: &R,
+    address: SocketAddr,
+) -> Result<usize, Fail> {
+    let mut stream = connect(rt, address)?;
+    let mut answer = [0; 2];
+    Ok(stream.read(&mut answer)?)
+}
+
+#[test]
+fn a_silent_client_is_a_fault_of_its_link(rt: HostRuntime) -> Result<(), Fail> {
+    let shared = &rt;
+    let address = free_address(shared)?;
+    let mut port = TcpPort::patient(shared, Some(address), Some(1), Duration::from_millis(200));
+    let (served, answer) = join(
+        shared,
+        || serve(&mut port, 1),
+        || stay_silent(shared, address),
+    );
+    assert_eq!(rt; served, (0, 1));
+    assert_eq!(rt; answer?, 0);
+    Ok(())
+}
+
+// Where somebody else listens, the port fails, and counts it.
+#[test]
+fn an_address_in_use_is_a_fault_of_the_port(rt: HostRuntime) -> Result<(), Fail> {
+    let shared = &rt;
+    let any = SocketAddr::from((Ipv4Addr::LOCALHOST, 0));
+    let listener = TcpListener::bind(shared, any)?;
+    let mut port = TcpPort::new(shared, Some(listener.local_addr()?), None);
+    assert!(rt; matches!(port.accept(), Err(Failed)));
+    Ok(())
+}
