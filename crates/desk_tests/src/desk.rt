@@ -14,6 +14,7 @@ use std::alloc::Global;
 use std::sync::Wait;
 use std::test::Fail;
 
+mod calls;
 mod commands;
 mod data;
 mod queries;

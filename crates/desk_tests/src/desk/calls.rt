@@ -1,0 +1,134 @@
+//! How many calls of a desk a reply makes.
+use super::data::anmo_record;
+use super::{NOW, SECRET, command, moment_at, opened, plain, record_archive, request_of};
+use archive_state::{Limits, Posted};
+use centre_desk::reply;
+use desk_words::{Answer, Desk, Question, SubmitFault, Submitted};
+use disk_model::MemoryDisk;
+use exact_time::{Bytes, Moment, OutOfMemory};
+use http_digest::Secret;
+use owned_desk::OwnedDesk;
+use std::alloc::Global;
+use std::sync::Wait;
+use std::test::Fail;
+
+// A desk that counts its calls.
+#[derive(Drop)]
+struct CountingDesk {
+    desk: OwnedDesk<MemoryDisk>,
+    asked: u32,
+    submitted: u32,
+    caught_up: u32,
+}
+
+impl CountingDesk {
+    fn counts(&self) -> (u32, u32, u32) {
+        (self.asked, self.submitted, self.caught_up)
+    }
+}
+
+impl Desk for CountingDesk {
+    ghost stand = { λ c. ⟦<OwnedDesk<MemoryDisk> as Desk>⟧.stand c.desk };
+
+    fn ask(
+        &mut self,
+        alloc: Global,
+        question: &Question,
+        secret: &Secret,
+        limits: &Limits,
+    ) -> Result<Answer, OutOfMemory> {
+        self.asked = self.asked.saturating_add(1);
+        self.desk.ask(alloc, question, secret, limits)
+    }
+
+    fn submit<R: Wait>(
+        &mut self,
+        rt: &R,
+        alloc: Global,
+        posted: &Posted,
+        moment: Moment,
+        secret: &Secret,
+        limits: &Limits,
+    ) -> Result<Submitted, SubmitFault> {
+        self.submitted = self.submitted.saturating_add(1);
+        self.desk.submit(rt, alloc, posted, moment, secret, limits)
+    }
+
+    fn catch_up<R: Wait>(&mut self, rt: &R) {
+        self.caught_up = self.caught_up.saturating_add(1);
+        self.desk.catch_up(rt);
+    }
+
+    fn front(&self) -> u64 {
+        self.desk.front()
+    }
+
+    fn stops(&self) -> u64 {
+        self.desk.stops()
+    }
+
+    ghost lawful = { λ c. ⟦<OwnedDesk<MemoryDisk> as Desk>⟧.lawful c.desk };
+}
+
+// Whether a request has a reply of this status, and the desk then so many calls behind it.
+fn is_told<R: Wait>(
+    rt: &R,
+    alloc: Global,
+    desk: &mut CountingDesk,
+    request: &Bytes,
+    status: u16,
+    counts: (u32, u32, u32),
+) -> Result<bool, Fail> {
+    let request = request_of(alloc, request)?;
+    let moment = moment_at(NOW)?;
+    if request.body.len() > 1_048_576 || !moment.is_clock_moment() {
+        return Err("no request".into());
+    }
+    let (reply, _turn) = reply(rt, alloc, desk, &request, moment, &SECRET, &Limits::FULL)?;
+    Ok(reply.status == status && desk.counts() == counts)
+}
+
+fn counting<R: Wait>(rt: &R, alloc: Global) -> Result<CountingDesk, Fail> {
+    Ok(CountingDesk {
+        desk: opened(alloc, &record_archive(rt, alloc)?, &[])?,
+        asked: 0,
+        submitted: 0,
+        caught_up: 0,
+    })
+}
+
+const QUERY: &str = "GET /fdsnws/dataselect/1/query?net=IU";
+
+// What a question leaves is nothing, so that no clause tells one from two.
+#[test]
+fn a_query_asks_once(rt: HostRuntime) -> Result<(), Fail> {
+    let alloc = rt.alloc();
+    let mut desk = counting(&rt, alloc)?;
+    let version = plain(alloc, "GET /fdsnws/dataselect/1/version", "")?;
+    let nothing = plain(alloc, "GET /nothing", "")?;
+    let query = plain(alloc, QUERY, "")?;
+    let wrong = plain(alloc, "GET /fdsnws/dataselect/1/query?foo=1", "")?;
+    let reached = plain(alloc, QUERY, "X-Archive-Front: 3\r\n")?;
+    let behind = plain(alloc, QUERY, "X-Archive-Front: 9\r\n")?;
+    assert!(rt; is_told(&rt, alloc, &mut desk, &version, 200, (0, 0, 0))?);
+    assert!(rt; is_told(&rt, alloc, &mut desk, &nothing, 404, (0, 0, 0))?);
+    assert!(rt; is_told(&rt, alloc, &mut desk, &query, 200, (1, 0, 0))?);
+    assert!(rt; is_told(&rt, alloc, &mut desk, &wrong, 400, (2, 0, 0))?);
+    assert!(rt; is_told(&rt, alloc, &mut desk, &reached, 200, (3, 0, 0))?);
+    assert!(rt; is_told(&rt, alloc, &mut desk, &behind, 400, (4, 0, 1))?);
+    Ok(())
+}
+
+#[test]
+fn a_command_is_submitted_once(rt: HostRuntime) -> Result<(), Fail> {
+    let alloc = rt.alloc();
+    let mut desk = counting(&rt, alloc)?;
+    let record = anmo_record();
+    let wrong = command(alloc, "feed1", "/feed/1/batch", &record)?;
+    let repeated = command(alloc, "feed1", "/feed/1/batch?seq=1", &record)?;
+    let gap = command(alloc, "feed1", "/feed/1/batch?seq=9", &record)?;
+    assert!(rt; is_told(&rt, alloc, &mut desk, &wrong, 400, (0, 0, 0))?);
+    assert!(rt; is_told(&rt, alloc, &mut desk, &repeated, 200, (0, 1, 0))?);
+    assert!(rt; is_told(&rt, alloc, &mut desk, &gap, 409, (0, 2, 0))?);
+    Ok(())
+}
