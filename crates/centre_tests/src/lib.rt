@@ -22,4 +22,6 @@ mod serves;
 #[cfg(test)]
 mod shelves;
 #[cfg(test)]
+mod stops;
+#[cfg(test)]
 mod talks;
