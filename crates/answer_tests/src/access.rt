@@ -8,18 +8,10 @@ use epoch_catalog::Catalog;
 use epochs::read_revision;
 use exact_time::{Many, Moment};
 use mseed_header::{Row, cut_records};
+use sample_data::anmo_record;
 use std::alloc::Global;
 use std::test::Fail;
 use time_index::IndexedShelf;
-
-// The head of a record: IU ANMO 00 BHZ, quality D, 100 samples at 20 Hz from 2024-02-01T00:00:00, of
-// which the last is at 00:00:04.95.
-const ANMO_HEAD: [u8; 56] = [
-    0x30, 0x30, 0x30, 0x30, 0x30, 0x31, 0x44, 0x20, 0x41, 0x4e, 0x4d, 0x4f, 0x20, 0x30, 0x30, 0x42,
-    0x48, 0x5a, 0x49, 0x55, 0x07, 0xe8, 0x00, 0x20, 0x00, 0x00, 0x00, 0x00, 0x00, 0x00, 0x00, 0x64,
-    0x00, 0x14, 0x00, 0x01, 0x00, 0x00, 0x00, 0x01, 0x00, 0x00, 0x00, 0x00, 0x00, 0x40, 0x00, 0x30,
-    0x03, 0xe8, 0x00, 0x00, 0x0a, 0x01, 0x09, 0x00,
-];
 
 const USERS: &str =
     "USR|op|939e7578ed9e3c518a452acee763bce9|operator\nUSR|ada|939e7578ed9e3c518a452acee763bce9|reader\nUSR|feed1|939e7578ed9e3c518a452acee763bce9|feed\nNET|IU|GSN|1988-01-01|\n";
@@ -27,12 +19,6 @@ const USERS: &str =
 const RESTRICTION: &str = "RST|IU|ANMO|00|BHZ|2024-01-01|\n";
 
 const GRANT: &str = "GRT|ada|IU|ANMO|00|BHZ|2024-01-01|\n";
-
-fn anmo_record() -> [u8; 512] {
-    let mut record = [0; 512];
-    record[..56].copy_from_slice(&ANMO_HEAD);
-    record
-}
 
 fn anmo_rows(alloc: Global) -> Result<Many<Row>, Fail> {
     Ok(cut_records(alloc, &anmo_record(), 1, Moment { micros: 5 })?)

@@ -7,16 +7,9 @@ use dataselect::{All, PlainShelf, Shelf, Sight};
 use exact_time::{Bytes, Many, Moment, OutOfMemory, Text, TextRefusal};
 use mseed_header::{Row, cut_records};
 use query_words::{AvailMethod, AvailQuery, avail_get, avail_post};
+use sample_data::anmo_record;
 use std::alloc::Global;
 use std::test::Fail;
-
-// The head of a record: IU ANMO 00 BHZ, quality D, 100 samples at 20 Hz from 2024-02-01T00:00:00.
-const ANMO_HEAD: [u8; 56] = [
-    0x30, 0x30, 0x30, 0x30, 0x30, 0x31, 0x44, 0x20, 0x41, 0x4e, 0x4d, 0x4f, 0x20, 0x30, 0x30, 0x42,
-    0x48, 0x5a, 0x49, 0x55, 0x07, 0xe8, 0x00, 0x20, 0x00, 0x00, 0x00, 0x00, 0x00, 0x00, 0x00, 0x64,
-    0x00, 0x14, 0x00, 0x01, 0x00, 0x00, 0x00, 0x01, 0x00, 0x00, 0x00, 0x00, 0x00, 0x40, 0x00, 0x30,
-    0x03, 0xe8, 0x00, 0x00, 0x0a, 0x01, 0x09, 0x00,
-];
 
 const HEADER: &str = "#Network Station Location Channel Quality SampleRate Earliest Latest\n";
 
@@ -28,10 +21,6 @@ fn changed(mut record: [u8; 512], at: usize, bytes: &[u8]) -> [u8; 512]
 {
     record[at..at + bytes.len()].copy_from_slice(bytes);
     record
-}
-
-fn anmo_record() -> [u8; 512] {
-    changed([0; 512], 0, &ANMO_HEAD)
 }
 
 // So many samples at 1 Hz, from a time of day on.

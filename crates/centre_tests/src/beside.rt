@@ -2,12 +2,13 @@
 ghost use Rattle.std.specs.Prelude.{◌≡◌, IfOk, length};
 
 use super::inits::{disk_of, founded};
-use super::runs::{SECRET, clock, owned_words};
+use super::runs::{clock, owned_words};
 use centre::{MemorySink, MemorySource, Worker, run};
 use centre_session::FixedClock;
 use exact_time::{Bytes, Failed, Many};
 use http_wire::MemoryLink;
 use link_ports::MemoryPort;
+use sample_data::SECRET;
 use snapshot_hall::Gate;
 use std::alloc::Global;
 use std::sync::Wait;

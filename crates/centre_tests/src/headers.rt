@@ -2,14 +2,14 @@
 ghost use Rattle.std.specs.Prelude.{◌+◌, ◌≤◌, length};
 
 use super::records::{
-    anmo_record, anmo_record_at, changed, cut, late_record, later_record, little_endian_record,
-    three_hertz_record,
+    anmo_record_at, changed, cut, late_record, later_record, little_endian_record,
 };
 use channel_globs::{Code, Nslc};
 use exact_time::{Bytes, Moment, cmp_sample_time};
 use mseed_header::{
     CutFault, Quality, RecordFault, count_records, cut_records, last, next, read_header,
 };
+use sample_data::{anmo_record, three_hertz_record};
 use std::cmp::Ordering;
 use std::process::Abort;
 use std::test::Fail;

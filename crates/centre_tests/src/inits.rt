@@ -3,13 +3,12 @@ use super::runs::run_over;
 use centre::{INIT_HELP, MemorySink, MemorySource};
 use disk_model::{Choice, MemoryDisk};
 use exact_time::{Bytes, Many};
+use sample_data::HA1;
 use std::alloc::Global;
 use std::process::Abort;
 use std::sync::Wait;
 use std::test::Fail;
 use std::thread::Threads;
-
-const HA1: &str = "939e7578ed9e3c518a452acee763bce9";
 
 // The journal with the founding entry of op: 103 bytes.
 const FOUNDED: &[u8] =

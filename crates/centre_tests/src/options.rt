@@ -1,9 +1,10 @@
 //! The options of `select`, and segments.
-use super::records::{anmo_record, anmo_record_at, changed, cut, late_record, later_record};
+use super::records::{anmo_record_at, changed, cut, late_record, later_record};
 use super::runs::{USUAL, check};
 use channel_globs::{Part, PatternList};
 use dataselect::{All, DataQuery, Nodata, PlainShelf, Selection, Shelf, answer};
 use exact_time::{Bytes, Many, Moment};
+use sample_data::anmo_record;
 use std::alloc::Global;
 use std::process::Abort;
 use std::sync::Wait;

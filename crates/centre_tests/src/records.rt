@@ -3,16 +3,9 @@ ghost use Rattle.std.specs.Prelude.{◌+◌, ◌≤◌, length};
 
 use exact_time::{Many, Moment};
 use mseed_header::{Row, cut_records};
+use sample_data::anmo_record;
 use std::alloc::Global;
 use std::test::Fail;
-
-// The head of a record: IU ANMO 00 BHZ, quality D, 100 samples at 20 Hz from 2024-02-01T00:00:00.
-const ANMO_HEAD: [u8; 56] = [
-    0x30, 0x30, 0x30, 0x30, 0x30, 0x31, 0x44, 0x20, 0x41, 0x4e, 0x4d, 0x4f, 0x20, 0x30, 0x30, 0x42,
-    0x48, 0x5a, 0x49, 0x55, 0x07, 0xe8, 0x00, 0x20, 0x00, 0x00, 0x00, 0x00, 0x00, 0x00, 0x00, 0x64,
-    0x00, 0x14, 0x00, 0x01, 0x00, 0x00, 0x00, 0x01, 0x00, 0x00, 0x00, 0x00, 0x00, 0x40, 0x00, 0x30,
-    0x03, 0xe8, 0x00, 0x00, 0x0a, 0x01, 0x09, 0x00,
-];
 
 /// The record with these bytes from an offset on.
 pub fn changed(mut record: [u8; 512], at: usize, bytes: &[u8]) -> [u8; 512]
@@ -22,17 +15,8 @@ pub fn changed(mut record: [u8; 512], at: usize, bytes: &[u8]) -> [u8; 512]
     record
 }
 
-pub fn anmo_record() -> [u8; 512] {
-    changed([0; 512], 0, &ANMO_HEAD)
-}
-
 pub fn anmo_record_at(second: u8) -> [u8; 512] {
     changed(anmo_record(), 26, &[second])
-}
-
-/// Two samples at 3 Hz from midnight: the last is at one third of a second.
-pub fn three_hertz_record() -> [u8; 512] {
-    changed(anmo_record(), 30, &[0x00, 0x02, 0x00, 0x03, 0x00, 0x01])
 }
 
 /// The numbers stand with the lowest byte first; the year is 2055.

@@ -1,19 +1,17 @@
 //! Runs of `select` over objects in memory.
 ghost use Rattle.std.specs.Prelude.{◌≡◌, IfOk, length};
 
-use super::records::{
-    anmo_record, anmo_record_at, changed, little_endian_record, three_hertz_record,
-};
+use super::records::{anmo_record_at, changed, little_endian_record};
 use centre::{
     Ended, HELP, MemorySink, MemorySource, SELECT_HELP, Sink, Source, StdSink, StdSource, Worker,
     run,
 };
 use centre_session::FixedClock;
 use disk_model::MemoryDisk;
-use exact_time::{Bytes, Many, Moment, OutOfMemory};
-use http_digest::Secret;
+use exact_time::{Bytes, Many, OutOfMemory};
 use http_wire::MemoryLink;
 use link_ports::MemoryPort;
+use sample_data::{NOW, SECRET, anmo_record, three_hertz_record};
 use snapshot_hall::OpenGate;
 use std::alloc::Global;
 use std::process::Abort;
@@ -29,16 +27,6 @@ struct Faults {
 }
 
 const NO_FAULTS: Faults = Faults { source: 0, sink: 0 };
-
-/// The secret of all runs here.
-pub const SECRET: Secret = Secret {
-    bytes: [0, 1, 2, 3, 4, 5, 6, 7, 8, 9, 10, 11, 12, 13, 14, 15],
-};
-
-// 2024-03-01T00:00:00
-const NOW: Moment = Moment {
-    micros: 1_709_251_200_000_000,
-};
 
 /// A clock that stands still.
 pub fn clock() -> Result<FixedClock, Fail> {

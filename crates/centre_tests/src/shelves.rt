@@ -1,13 +1,14 @@
 //! Shelves and answers.
 ghost use Rattle.std.specs.Prelude.{◌==◌, ◌%◌, false};
 
-use super::records::{anmo_record, anmo_record_at, changed, cut};
+use super::records::{anmo_record_at, changed, cut};
 use channel_globs::{Nslc, Part, PatternList};
 use dataselect::{
     All, DataQuery, DataRefusal, Inserted, Nodata, PlainShelf, Selection, Shelf, Sight, answer,
 };
 use exact_time::{Bytes, Many, OutOfMemory};
 use mseed_header::{Quality, Row};
+use sample_data::anmo_record;
 use std::alloc::Global;
 use std::test::Fail;
 

@@ -1,6 +1,6 @@
 //! A service that is stopped at each call of a commit, and one over what that left.
 use super::inits::{disk_of, founded};
-use super::runs::{SECRET, run_with};
+use super::runs::run_with;
 use archive_log::Archive;
 use centre::{MemorySink, MemorySource};
 use disk_model::{Choice, Disk, MemoryDisk};
@@ -8,6 +8,7 @@ use exact_time::{Bytes, Many};
 use http_digest::{nonce_of, response_of};
 use http_wire::MemoryLink;
 use link_ports::MemoryPort;
+use sample_data::SECRET;
 use std::alloc::Global;
 use std::process::Abort;
 use std::sync::Wait;

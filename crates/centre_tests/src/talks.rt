@@ -1,10 +1,10 @@
 //! Sessions of `talk` over disks in memory. The responses of Digest were made with Python's hashlib.
 use super::inits::founded;
-use super::records::{anmo_record, three_hertz_record};
 use super::runs::run_over;
 use centre::{MemorySink, MemorySource, TALK_HELP};
 use disk_model::{Choice, MemoryDisk};
 use exact_time::{Bytes, Many};
+use sample_data::{anmo_record, three_hertz_record};
 use std::alloc::Global;
 use std::process::Abort;
 use std::sync::Wait;

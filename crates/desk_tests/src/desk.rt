@@ -6,10 +6,11 @@ use archive_state::Limits;
 use centre_desk::reply;
 use disk_model::{Choice, Disk, MemoryDisk};
 use exact_time::{Bytes, Many, Moment};
-use http_digest::{Secret, nonce_of, response_of};
+use http_digest::{nonce_of, response_of};
 use http_replies::{Reply, write_reply};
 use http_wire::{Inbox, MemoryLink, Request, read_request};
 use owned_desk::OwnedDesk;
+use sample_data::{EPOCHS, HA1, HA1_DIGITS, SECRET, USERS, anmo_record, bytes};
 use std::alloc::Global;
 use std::sync::Wait;
 use std::test::Fail;
@@ -20,21 +21,13 @@ mod data;
 mod queries;
 mod refusals;
 
-use data::{EPOCHS, HA1, HA1_DIGITS, SECRET, USERS, anmo_record};
-
 // 2024-03-01T00:00:00
 const NOW: u64 = 1_709_251_200;
-
-fn bytes(alloc: Global, piece: &[u8]) -> Result<Bytes, Fail> {
-    let mut bytes = Bytes::new(alloc);
-    bytes.extend(piece)?;
-    Ok(bytes)
-}
 
 // A request without a body.
 fn plain(alloc: Global, line: &str, fields: &str) -> Result<Bytes, Fail> {
     let text = format!(in alloc; "{line} HTTP/1.1\r\n{fields}\r\n")?;
-    bytes(alloc, text.as_bytes())
+    Ok(bytes(alloc, text.as_bytes())?)
 }
 
 // What a user sends that answers a challenge of a second.
@@ -107,7 +100,7 @@ fn written(alloc: Global, reply: &Reply) -> Result<Bytes, Fail>
 {
     let mut link = MemoryLink::new(alloc, Many::new(alloc), Many::new(alloc));
     write_reply(&mut link, reply)?;
-    bytes(alloc, link.told().ok_or("nothing written")?)
+    Ok(bytes(alloc, link.told().ok_or("nothing written")?)?)
 }
 
 // The reply to a request at a second.

@@ -3,22 +3,13 @@ use archive_log::Archive;
 use archive_state::Limits;
 use centre_session::{FixedClock, SessionEnd, Trail, serve_session};
 use disk_model::{Choice, MemoryDisk};
-use exact_time::{Bytes, Many, Moment};
-use http_digest::Secret;
+use exact_time::{Bytes, Many};
 use http_wire::MemoryLink;
 use owned_desk::OwnedDesk;
+use sample_data::{NOW, SECRET, bytes};
 use std::alloc::Global;
 use std::sync::Wait;
 use std::test::Fail;
-
-const SECRET: Secret = Secret {
-    bytes: [0, 1, 2, 3, 4, 5, 6, 7, 8, 9, 10, 11, 12, 13, 14, 15],
-};
-
-// 2024-03-01T00:00:00
-const NOW: Moment = Moment {
-    micros: 1_709_251_200_000_000,
-};
 
 // The operator adds a network. The response was made with Python's hashlib.
 const REVISE: &[u8] =
@@ -30,12 +21,6 @@ const VERSION: &[u8] = b"GET /fdsnws/event/1/version HTTP/1.1\r\n\r\n";
 
 const VERSION_TOLD: &[u8] =
     b"HTTP/1.1 200 OK\r\nContent-Type: text/plain\r\nContent-Length: 6\r\nX-Archive-Front: 1\r\n\r\n1.2.0\n";
-
-fn bytes(alloc: Global, piece: &[u8]) -> Result<Bytes, Fail> {
-    let mut bytes = Bytes::new(alloc);
-    bytes.extend(piece)?;
-    Ok(bytes)
-}
 
 fn numbers(alloc: Global, numbers: &[u64]) -> Result<Many<u64>, Fail> {
     let mut many = Many::new(alloc);
@@ -122,7 +107,7 @@ fn refusal(alloc: Global, status: &str, text: &str) -> Result<Bytes, Fail> {
     let reply = format!(in alloc;
         "HTTP/1.1 {status}\r\nContent-Type: text/plain\r\nContent-Length: {size}\r\nX-Archive-Front: 1\r\nConnection: close\r\n\r\n{text}"
     )?;
-    bytes(alloc, reply.as_bytes())
+    Ok(bytes(alloc, reply.as_bytes())?)
 }
 
 // Whether a session over these bytes and a request behind them refuses the head with this status and text, and closes.

@@ -8,6 +8,7 @@ use archive_state::{Admit, founding_entry};
 use dataselect::Shelf;
 use exact_time::{Bytes, Moment, OutOfMemory, Text};
 use left_right::Absorb;
+use sample_data::{HA1, USERS, anmo_record};
 use std::alloc::Global;
 use std::marker::Brand;
 use std::process::Abort;
@@ -15,25 +16,6 @@ use std::test::Fail;
 use two_copies::{Carries, HeldState, Step};
 
 mod places;
-
-const HA1: &str = "939e7578ed9e3c518a452acee763bce9";
-
-const USERS: &[u8] =
-    b"USR|feed1|939e7578ed9e3c518a452acee763bce9|feed\nUSR|ada|939e7578ed9e3c518a452acee763bce9|reader\n";
-
-// The head of a record: IU ANMO 00 BHZ, quality D, 100 samples at 20 Hz from 2024-02-01T00:00:00.
-const ANMO_HEAD: [u8; 56] = [
-    0x30, 0x30, 0x30, 0x30, 0x30, 0x31, 0x44, 0x20, 0x41, 0x4e, 0x4d, 0x4f, 0x20, 0x30, 0x30, 0x42,
-    0x48, 0x5a, 0x49, 0x55, 0x07, 0xe8, 0x00, 0x20, 0x00, 0x00, 0x00, 0x00, 0x00, 0x00, 0x00, 0x64,
-    0x00, 0x14, 0x00, 0x01, 0x00, 0x00, 0x00, 0x01, 0x00, 0x00, 0x00, 0x00, 0x00, 0x40, 0x00, 0x30,
-    0x03, 0xe8, 0x00, 0x00, 0x0a, 0x01, 0x09, 0x00,
-];
-
-fn anmo_record() -> [u8; 512] {
-    let mut record = [0; 512];
-    record[..56].copy_from_slice(&ANMO_HEAD);
-    record
-}
 
 fn entry(
     alloc: Global,
@@ -126,7 +108,7 @@ fn a_copy_takes_each_entry_once_and_in_order(rt: HostRuntime) -> Result<(), Fail
     let alloc: Global = rt.alloc();
     let entries = [
         founding_entry(alloc, "op", HA1)?,
-        entry(alloc, 2, "op", 1, Kind::Revise, USERS)?,
+        entry(alloc, 2, "op", 1, Kind::Revise, USERS.as_bytes())?,
         entry(alloc, 3, "feed1", 1, Kind::Batch, &anmo_record())?,
     ];
     taken_once::<Brand>(&rt, alloc, Opened::new(), entries)

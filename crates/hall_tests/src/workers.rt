@@ -4,23 +4,14 @@ use archive_state::Limits;
 use centre_port::serve_port;
 use centre_session::{FixedClock, Trail};
 use disk_model::{Choice, MemoryDisk};
-use exact_time::{Bytes, Failed, Many, Moment};
-use http_digest::Secret;
+use exact_time::{Bytes, Failed, Many};
 use http_wire::MemoryLink;
 use link_ports::{MemoryPort, Port, Returned};
 use owned_desk::OwnedDesk;
+use sample_data::{NOW, SECRET, bytes};
 use std::alloc::Global;
 use std::sync::Wait;
 use std::test::Fail;
-
-const SECRET: Secret = Secret {
-    bytes: [0, 1, 2, 3, 4, 5, 6, 7, 8, 9, 10, 11, 12, 13, 14, 15],
-};
-
-// 2024-03-01T00:00:00
-const NOW: Moment = Moment {
-    micros: 1_709_251_200_000_000,
-};
 
 // The operator adds a network. The response was made with Python's hashlib.
 const REVISE: &[u8] =
@@ -39,12 +30,6 @@ const VERSION_TOLD: &[u8] =
 
 const LATER_VERSION: &[u8] =
     b"HTTP/1.1 200 OK\r\nContent-Type: text/plain\r\nContent-Length: 6\r\nX-Archive-Front: 2\r\nConnection: close\r\n\r\n1.2.0\n";
-
-fn bytes(alloc: Global, piece: &[u8]) -> Result<Bytes, Fail> {
-    let mut bytes = Bytes::new(alloc);
-    bytes.extend(piece)?;
-    Ok(bytes)
-}
 
 // A desk over the founding entry alone.
 fn founded_desk(alloc: Global) -> Result<OwnedDesk<MemoryDisk>, Fail> {

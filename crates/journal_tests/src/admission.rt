@@ -8,27 +8,14 @@ use archive_entry::{Entry, Kind};
 use archive_state::{Admit, Limits, Posted, Verdict, founding_body};
 use epoch_rules::Rule;
 use epochs::LineFault;
-use exact_time::{Bytes, Moment, OutOfMemory, Text};
-use http_digest::{Credentials, Secret};
+use exact_time::{Moment, OutOfMemory, Text};
+use http_digest::Credentials;
 use mseed_header::RecordFault;
+use sample_data::{HA1, NOW, SECRET, USERS, anmo_record, bytes};
 use std::alloc::Global;
 use std::test::Fail;
 
 mod states;
-
-const HA1: &str = "939e7578ed9e3c518a452acee763bce9";
-
-const USERS: &str =
-    "USR|feed1|939e7578ed9e3c518a452acee763bce9|feed\nUSR|ada|939e7578ed9e3c518a452acee763bce9|reader\n";
-
-const SECRET: Secret = Secret {
-    bytes: [0, 1, 2, 3, 4, 5, 6, 7, 8, 9, 10, 11, 12, 13, 14, 15],
-};
-
-// 2024-03-01T00:00:00
-const NOW: Moment = Moment {
-    micros: 1_709_251_200_000_000,
-};
 
 const TARGET: &str = "/feed/1/batch?seq=1";
 
@@ -36,31 +23,11 @@ const TARGET: &str = "/feed/1/batch?seq=1";
 const ANSWER: &str =
     r#"realm="FDSN", nonce="0000000065e11a80c4b9ad505cad33331a9629a94b60ee48", uri="/feed/1/batch?seq=1", response="898446931261210deff9aff8321f61b9""#;
 
-// The head of a record: IU ANMO 00 BHZ, quality D, 100 samples at 20 Hz from 2024-02-01T00:00:00.
-const ANMO_HEAD: [u8; 56] = [
-    0x30, 0x30, 0x30, 0x30, 0x30, 0x31, 0x44, 0x20, 0x41, 0x4e, 0x4d, 0x4f, 0x20, 0x30, 0x30, 0x42,
-    0x48, 0x5a, 0x49, 0x55, 0x07, 0xe8, 0x00, 0x20, 0x00, 0x00, 0x00, 0x00, 0x00, 0x00, 0x00, 0x64,
-    0x00, 0x14, 0x00, 0x01, 0x00, 0x00, 0x00, 0x01, 0x00, 0x00, 0x00, 0x00, 0x00, 0x40, 0x00, 0x30,
-    0x03, 0xe8, 0x00, 0x00, 0x0a, 0x01, 0x09, 0x00,
-];
-
-fn anmo_record() -> [u8; 512] {
-    let mut record = [0; 512];
-    record[..56].copy_from_slice(&ANMO_HEAD);
-    record
-}
-
 // Two samples at 3 Hz in its place.
 fn slow_record() -> [u8; 512] {
     let mut record = anmo_record();
     record[30..36].copy_from_slice(&[0, 2, 0, 3, 0, 1]);
     record
-}
-
-fn bytes(alloc: Global, piece: &[u8]) -> Result<Bytes, Fail> {
-    let mut bytes = Bytes::new(alloc);
-    bytes.extend(piece)?;
-    Ok(bytes)
 }
 
 // What a user sends; the kind goes with it.

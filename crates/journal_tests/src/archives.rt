@@ -9,6 +9,7 @@ use archive_log::{Archive, FoundFault, StartFault};
 use archive_state::Admit;
 use disk_model::{Choice, Disk, FuseDisk, MemoryDisk};
 use exact_time::{Bytes, Many, OutOfMemory};
+use sample_data::HA1;
 use std::alloc::Global;
 use std::test::Fail;
 
@@ -90,8 +91,6 @@ fn opens_the_founding_entry(rt: HostRuntime) -> Result<(), Fail> {
     }
     Ok(())
 }
-
-const HA1: &str = "939e7578ed9e3c518a452acee763bce9";
 
 // Founded in an empty file, it is that file; in a file with bytes nothing is founded, and nothing is written.
 #[test]

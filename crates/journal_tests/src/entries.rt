@@ -3,6 +3,7 @@ ghost use Rattle.std.specs.Prelude.{◌<◌, ◌+◌, ◌≤◌, length};
 
 use archive_entry::{Entry, EntryFault, Kind, decode, decode_counted, encode};
 use exact_time::Bytes;
+use sample_data::{USERS, anmo_record};
 use std::alloc::Global;
 use std::test::Fail;
 
@@ -21,28 +22,11 @@ const REVISION_FRONT: [u8; 32] = [
     0, 0, 0, 0, 1, 2, 0, 0, 0, 96,
 ];
 
-const USERS: &str =
-    "USR|feed1|939e7578ed9e3c518a452acee763bce9|feed\nUSR|ada|939e7578ed9e3c518a452acee763bce9|reader\n";
-
 // The third entry, by feed1 as its first, at 2024-02-01T00:00:00: a batch of two records.
 const BATCH_FRONT: [u8; 35] = [
     0, 0, 0, 0, 0, 0, 0, 3, 0, 0x06, 0x10, 0x46, 0xad, 0x35, 0xc0, 0x00, 5, 0x66, 0x65, 0x65, 0x64,
     0x31, 0, 0, 0, 0, 0, 0, 0, 1, 1, 0, 0, 4, 0,
 ];
-
-// The head of a record: IU ANMO 00 BHZ, quality D, 100 samples at 20 Hz from 2024-02-01T00:00:00.
-const ANMO_HEAD: [u8; 56] = [
-    0x30, 0x30, 0x30, 0x30, 0x30, 0x31, 0x44, 0x20, 0x41, 0x4e, 0x4d, 0x4f, 0x20, 0x30, 0x30, 0x42,
-    0x48, 0x5a, 0x49, 0x55, 0x07, 0xe8, 0x00, 0x20, 0x00, 0x00, 0x00, 0x00, 0x00, 0x00, 0x00, 0x64,
-    0x00, 0x14, 0x00, 0x01, 0x00, 0x00, 0x00, 0x01, 0x00, 0x00, 0x00, 0x00, 0x00, 0x40, 0x00, 0x30,
-    0x03, 0xe8, 0x00, 0x00, 0x0a, 0x01, 0x09, 0x00,
-];
-
-fn anmo_record() -> [u8; 512] {
-    let mut record = [0; 512];
-    record[..56].copy_from_slice(&ANMO_HEAD);
-    record
-}
 
 // 25,000 microseconds past 5 s.
 fn late_record() -> [u8; 512] {

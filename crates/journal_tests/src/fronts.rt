@@ -5,11 +5,10 @@ ghost use Rattle.archive_state.specs.Lawful.{is_next};
 use archive_entry::Entry;
 use archive_history::{Front, Naming, Opened};
 use archive_state::founding_entry;
+use sample_data::HA1;
 use std::marker::Brand;
 use std::process::Abort;
 use std::test::Fail;
-
-const HA1: &str = "939e7578ed9e3c518a452acee763bce9";
 
 // A token of before and one of after: the second goes past the first, which can't be added to any more.
 fn one_goes_past_the_other<J: Naming>(rt: &impl Abort, opened: Opened, entry: &Entry)

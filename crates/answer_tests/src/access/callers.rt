@@ -3,15 +3,10 @@ use super::take;
 use access_digest::{Denial, WhoFault, who};
 use epoch_catalog::Catalog;
 use exact_time::{Bytes, Moment, Text};
-use http_digest::{Credentials, Secret};
+use http_digest::Credentials;
+use sample_data::SECRET;
 use std::alloc::Global;
 use std::test::Fail;
-
-// What curl 7.88 and Python's requests 2.34 answered a challenge of this secret, issued at
-// 2024-03-01T00:00:00, for ada, whose password is `secret "ring"`.
-const SECRET: Secret = Secret {
-    bytes: [0, 1, 2, 3, 4, 5, 6, 7, 8, 9, 10, 11, 12, 13, 14, 15],
-};
 
 const ISSUED: i64 = 1_709_251_200_000_000;
 

@@ -1,11 +1,12 @@
 //! The shelf answers as the plain one does.
 ghost use Rattle.std.specs.Prelude.{◌==◌, ◌%◌, ◌<◌, false};
 
-use super::records::{FIRST_SECOND, anmo_record, anmo_record_at, changed, cut, selection};
+use super::records::{FIRST_SECOND, anmo_record_at, changed, cut, selection};
 use channel_globs::Nslc;
 use dataselect::{All, DataQuery, Inserted, Nodata, PlainShelf, Selection, Shelf, Sight};
 use exact_time::{Bytes, Many, Moment, OutOfMemory};
 use mseed_header::{Quality, Row};
+use sample_data::anmo_record;
 use std::alloc::Global;
 use std::test::Fail;
 use time_index::IndexedShelf;

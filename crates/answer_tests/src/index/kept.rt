@@ -1,11 +1,12 @@
 //! Spans that are kept as rows come in any order.
 ghost use Rattle.std.specs.Prelude.{◌<◌};
 
-use super::records::{anmo_record, changed, cut};
+use super::records::{changed, cut};
 use channel_globs::{Code, Nslc};
 use dataselect::{PlainShelf, Shelf, Span};
 use exact_time::{OutOfMemory, SampleTime};
 use mseed_header::Row;
+use sample_data::anmo_record;
 use std::alloc::Global;
 use std::test::Fail;
 use time_index::IndexedShelf;

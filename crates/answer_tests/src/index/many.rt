@@ -1,9 +1,10 @@
 //! A hundred thousand rows of one channel.
 ghost use Rattle.std.specs.Prelude.{◌<◌};
 
-use super::records::{FIRST_SECOND, anmo_record, changed, cut, selection};
+use super::records::{FIRST_SECOND, changed, cut, selection};
 use dataselect::{All, DataQuery, Inserted, Nodata, Shelf};
 use exact_time::{Many, Moment};
+use sample_data::anmo_record;
 use std::alloc::Global;
 use std::test::Fail;
 use time_index::TimeIndex;

@@ -5,16 +5,9 @@ use channel_globs::{Part, PatternList};
 use dataselect::Selection;
 use exact_time::{Many, Moment};
 use mseed_header::{Row, cut_records};
+use sample_data::anmo_record;
 use std::alloc::Global;
 use std::test::Fail;
-
-// The head of a record: IU ANMO 00 BHZ, quality D, 100 samples at 20 Hz from 2024-02-01T00:00:00.
-const ANMO_HEAD: [u8; 56] = [
-    0x30, 0x30, 0x30, 0x30, 0x30, 0x31, 0x44, 0x20, 0x41, 0x4e, 0x4d, 0x4f, 0x20, 0x30, 0x30, 0x42,
-    0x48, 0x5a, 0x49, 0x55, 0x07, 0xe8, 0x00, 0x20, 0x00, 0x00, 0x00, 0x00, 0x00, 0x00, 0x00, 0x64,
-    0x00, 0x14, 0x00, 0x01, 0x00, 0x00, 0x00, 0x01, 0x00, 0x00, 0x00, 0x00, 0x00, 0x40, 0x00, 0x30,
-    0x03, 0xe8, 0x00, 0x00, 0x0a, 0x01, 0x09, 0x00,
-];
 
 /// 2024-02-01T00:00:00, in seconds since 1970.
 pub const FIRST_SECOND: i64 = 1_706_745_600;
@@ -25,10 +18,6 @@ pub fn changed(mut record: [u8; 512], at: usize, bytes: &[u8]) -> [u8; 512]
 {
     record[at..at + bytes.len()].copy_from_slice(bytes);
     record
-}
-
-pub fn anmo_record() -> [u8; 512] {
-    changed([0; 512], 0, &ANMO_HEAD)
 }
 
 pub fn anmo_record_at(second: u8) -> [u8; 512] {

@@ -1,11 +1,12 @@
 //! Names, spans, and rows put in together.
 ghost use Rattle.std.specs.Prelude.{◌<◌};
 
-use super::records::{FIRST_SECOND, anmo_record, anmo_record_at, changed, cut, selection};
+use super::records::{FIRST_SECOND, anmo_record_at, changed, cut, selection};
 use channel_globs::{Code, Nslc};
 use dataselect::{PlainShelf, Selection, Shelf, Span};
 use exact_time::{Bytes, Many, Moment, OutOfMemory, Ratio, SampleTime, cmp_sample_time};
 use mseed_header::{Quality, Row};
+use sample_data::anmo_record;
 use std::alloc::Global;
 use std::cmp::Ordering;
 use std::test::Fail;

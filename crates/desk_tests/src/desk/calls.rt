@@ -1,6 +1,5 @@
 //! How many calls of a desk a reply makes.
-use super::data::anmo_record;
-use super::{NOW, SECRET, command, moment_at, opened, plain, record_archive, request_of};
+use super::{NOW, command, moment_at, opened, plain, record_archive, request_of};
 use archive_state::{Limits, Posted};
 use centre_desk::reply;
 use desk_words::{Answer, Desk, Question, SubmitFault, Submitted};
@@ -8,6 +7,7 @@ use disk_model::MemoryDisk;
 use exact_time::{Bytes, Moment, OutOfMemory};
 use http_digest::Secret;
 use owned_desk::OwnedDesk;
+use sample_data::{SECRET, anmo_record};
 use std::alloc::Global;
 use std::sync::Wait;
 use std::test::Fail;

@@ -1,11 +1,11 @@
 //! Commands, and what they leave.
-use super::data::{anmo_record, three_hertz_record};
 use super::{
     NOW, add_nothing, add_records, add_text, command, epochs_archive, opened, plain,
     record_archive, replies, replies_of, signed, told, users_archive,
 };
 use archive_state::Limits;
 use exact_time::Bytes;
+use sample_data::{anmo_record, three_hertz_record};
 use std::test::Fail;
 
 const BATCH: &str = "/feed/1/batch?seq=1";

@@ -1,11 +1,12 @@
 //! Questions and their answers.
-use super::data::{anmo_record, hour_record, later_record, ten_seconds_record, three_hertz_record};
+use super::data::{hour_record, later_record, ten_seconds_record};
 use super::{
     NOW, add_nothing, add_records, add_text, command, epochs_archive, plain, posted,
     record_archive, replies, told, users_archive, with_command,
 };
 use archive_state::Limits;
 use exact_time::Bytes;
+use sample_data::{anmo_record, three_hertz_record};
 use std::alloc::Global;
 use std::test::Fail;
 

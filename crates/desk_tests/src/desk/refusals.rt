@@ -1,10 +1,10 @@
 //! Requests that are given nothing.
-use super::data::anmo_record;
 use super::{
     NOW, add_records, add_text, credentials, plain, posted, record_archive, replies, told,
 };
 use archive_state::Limits;
 use exact_time::Bytes;
+use sample_data::anmo_record;
 use std::test::Fail;
 
 #[test]

@@ -2,14 +2,14 @@
 ghost use Rattle.std.specs.Prelude.{◌≡◌, ◌++◌, ◌∷◌, [], drop, List};
 ghost use Rattle.archive_entry.specs.declared.entry.Entry.{Entry};
 
-use super::{HA1, Making, USERS, anmo_record, entry};
+use super::{Making, entry};
 use archive_entry::{Entry, Kind};
 use archive_history::{Front, Naming, Opened};
 use archive_state::{Admit, Limits, State, founding_entry};
 use desk_words::{Outcome, Question, Wanted, outcome};
-use exact_time::{Moment, OutOfMemory};
-use http_digest::Secret;
+use exact_time::OutOfMemory;
 use query_words::{data_get, station_get};
+use sample_data::{EPOCHS, HA1, NOW, SECRET, USERS, anmo_record};
 use std::alloc::Global;
 use std::marker::Brand;
 use std::process::Abort;
@@ -17,18 +17,6 @@ use std::sync::Wait;
 use std::sync::ledger::{Blank, Ledger};
 use std::test::Fail;
 use two_copies::{Carries, CopyWriter, HeldState, Place, Shares, Step, publish};
-
-const EPOCHS: &[u8] =
-    b"NET|IU|GSN|1988-01-01|\nSTA|IU|ANMO|34.9459|-106.4572|1850|Albuquerque|2002-11-19T21:07:00|\nEVT|e1|2024-01-01T07:10:09|37.498|137.242|10|us|NEIC|us|e1|Mww|7.5|us|Noto\n";
-
-const SECRET: Secret = Secret {
-    bytes: [0, 1, 2, 3, 4, 5, 6, 7, 8, 9, 10, 11, 12, 13, 14, 15],
-};
-
-// 2024-03-01T00:00:00
-const NOW: Moment = Moment {
-    micros: 1_709_251_200_000_000,
-};
 
 fn asking(wanted: Wanted) -> Question {
     Question {
@@ -320,9 +308,9 @@ fn places_see_what_is_shown(rt: HostRuntime) -> Result<(), Fail> {
     let alloc: Global = rt.alloc();
     let entries = [
         founding_entry(alloc, "op", HA1)?,
-        entry(alloc, 2, "op", 1, Kind::Revise, USERS)?,
+        entry(alloc, 2, "op", 1, Kind::Revise, USERS.as_bytes())?,
         entry(alloc, 3, "feed1", 1, Kind::Batch, &anmo_record())?,
-        entry(alloc, 4, "op", 2, Kind::Revise, EPOCHS)?,
+        entry(alloc, 4, "op", 2, Kind::Revise, EPOCHS.as_bytes())?,
     ];
     let asked = Asked {
         records: asking(Wanted::Waves(data_get(alloc, b"net=IU")?)),

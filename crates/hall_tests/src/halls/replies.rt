@@ -1,10 +1,11 @@
 //! Replies to requests, over the desks of a hall.
-use super::{NOW, SECRET, batch, bytes, post, three_hertz_record};
+use super::{batch, post};
 use archive_state::{Limits, Verdict};
 use centre_desk::reply;
 use desk_words::Desk;
 use exact_time::Many;
 use http_wire::{Inbox, MemoryLink, Request, read_request};
+use sample_data::{NOW, SECRET, bytes, three_hertz_record};
 use std::alloc::Global;
 use std::process::Abort;
 use std::sync::Wait;

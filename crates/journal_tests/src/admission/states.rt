@@ -3,11 +3,12 @@ ghost use Rattle.std.specs.Prelude.{◌≡◌, OnOk};
 ghost use Rattle.archive_state.specs.Admits.{IsAdmit};
 ghost use Rattle.archive_state.specs.Lawful.{IsLawful};
 
-use super::{NOW, USERS, anmo_record, batch, entry_of, revision, slow_record};
+use super::{batch, entry_of, revision, slow_record};
 use archive_entry::Entry;
 use archive_state::{Admit, State, founding_entry, the_next_entry_can_be_absorbed};
 use dataselect::Shelf;
 use exact_time::OutOfMemory;
+use sample_data::{EPOCHS, NOW, USERS, anmo_record};
 use std::alloc::Global;
 use std::test::Fail;
 
@@ -44,10 +45,6 @@ fn archive(alloc: Global, admit: &mut Admit, state: &mut State) -> Result<(), Fa
     take(admit, state, &record)?;
     Ok(())
 }
-
-// The lines of a network, a station and an event.
-const EPOCHS: &str =
-    "NET|IU|GSN|1988-01-01|\nSTA|IU|ANMO|34.9459|-106.4572|1850|Albuquerque|2002-11-19T21:07:00|\nEVT|e1|2024-01-01T07:10:09|37.498|137.242|10|us|NEIC|us|e1|Mww|7.5|us|Noto\n";
 
 #[test]
 fn holds_rows_lines_and_entries(rt: HostRuntime) -> Result<(), Fail> {
