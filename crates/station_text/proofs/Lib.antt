@@ -1,3 +1,14 @@
 pub mod Asking
+pub mod Counted
+pub mod Decided
 pub mod Examples
+pub mod Grouped
 pub mod Inside
+pub mod Levels
+pub mod NetworkCuts
+pub mod PlaceCuts
+pub mod PlaceOrder
+pub mod Places
+pub mod PlacesFound
+pub mod SectionCuts
+pub mod SectionOrder

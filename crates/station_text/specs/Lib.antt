@@ -1,5 +1,10 @@
 pub mod Answers
 pub mod Asked
+pub mod Counts
+pub mod Found
+pub mod Groups
 pub mod Lines
+pub mod Matched
+pub mod Sections
 pub mod Texts
 pub mod Windows

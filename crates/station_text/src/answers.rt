@@ -1,34 +1,14 @@
 //! The text that a query for stations is answered with.
-ghost use Rattle.std.specs.Prelude.{◌≡◌, map, IfOk, IfErr, Ok};
-ghost use Rattle.station_text.specs.Asked.{asked_lines};
+ghost use Rattle.std.specs.Prelude.{◌≡◌, IfOk, IfErr, Ok};
 ghost use Rattle.line_columns.specs.Answers.{RefusesTextAs};
 ghost use Rattle.station_text.specs.Answers.{text_answer_of};
-ghost use Rattle.station_text.specs.Lines.{line_at};
 
-use crate::asked::is_line_asked;
+use crate::found::asked_lines;
 use crate::lines::answer_text;
 use epoch_catalog::Catalog;
-use epochs::Line;
-use exact_time::{Many, OutOfMemory, Text, TextRefusal};
+use exact_time::{Text, TextRefusal};
 use query_words::StationQuery;
 use std::alloc::Global;
-
-// The live lines that are asked for, in the order of codes and start.
-fn asked_lines<'a>(
-    alloc: Global,
-    catalog: &'a Catalog,
-    query: &StationQuery,
-) -> Result<Many<&'a Line>, OutOfMemory>
-    ensures { IfOk result (λ lines. map line_at lines ≡ asked_lines catalog.now query.now) }
-{
-    let mut asked = Many::new(alloc);
-    'lines: for line in catalog.lines() {
-        if is_line_asked(catalog, query, line) {
-            asked.push(line)?;
-        }
-    }
-    Ok(asked)
-}
 
 /// The text that a query is answered with (FDSN Web Service Specifications 1.2, station, format=text): a
 /// header line, and a line for each live epoch of the asked level that is asked for, in the order of codes

@@ -1,16 +1,22 @@
-//! Which live lines a query for stations asks for.
-ghost use Rattle.std.specs.Prelude.{◌≡◌, map};
+//! What a query for stations asks of a line.
+ghost use Rattle.std.specs.Prelude.{◌≡◌, Some, map};
 ghost use Rattle.std.specs.List.{list_any};
 ghost use Rattle.epochs.specs.Views.{values_of_line};
 ghost use Rattle.epochs.specs.declared.line.Line.TheVariants.{Net, Sta, Cha};
-ghost use Rattle.station_text.specs.Asked.{is_every, takes_all_channels, matches_channel, is_inner_channel, has_channel, is_wanted, asks_inside, is_inner_station, takes_all_stations, has_station, names_network, names_station, names_channel, selects_network, selects_station, selects_channel, is_eligible, asks_network, asks_station, asks_channel, is_line_asked};
+ghost use Rattle.channel_globs.specs.Matching.{single_code};
+ghost use Rattle.station_text.specs.Asked.{is_every, takes_all_channels, matches_channel, is_inner_channel, channels_of, has_channel, is_wanted, asks_inside, is_inner_station, stations_of, takes_all_stations, has_station, names_network, selects_network, is_eligible, asks_network};
 
+use crate::place::Place;
+use crate::sections::{Section, lines_at, lines_in};
 use crate::windows::Epoch;
-use channel_globs::PatternList;
+use channel_globs::{Code, PatternList};
 use dataselect::Selection;
 use epoch_catalog::{Catalog, Family};
 use epochs::{ChannelEpoch, Line, NetworkEpoch, StationEpoch};
 use query_words::{Area, Level, StationQuery};
+
+// So many lines are walked in the time of a search by halves.
+const FEW_LINES: usize = 100;
 
 // Whether a list is the one pattern `*`.
 fn is_every(list: &PatternList) -> bool
@@ -46,8 +52,8 @@ pub fn station_epoch(station: &StationEpoch) -> Epoch
     }
 }
 
-// The epoch of a channel.
-fn channel_epoch(channel: &ChannelEpoch) -> Epoch
+/// The epoch of a channel.
+pub fn channel_epoch(channel: &ChannelEpoch) -> Epoch
     ensures { (result.start ≡ channel.now.start) × (result.end ≡ channel.now.end) }
 {
     Epoch {
@@ -56,8 +62,8 @@ fn channel_epoch(channel: &ChannelEpoch) -> Epoch
     }
 }
 
-// Whether the selection matches the location and the channel.
-fn matches_channel(selection: &Selection, channel: &ChannelEpoch) -> bool
+/// Whether the selection matches the location and the channel.
+pub fn matches_channel(selection: &Selection, channel: &ChannelEpoch) -> bool
     ensures { result ≡ matches_channel selection.now (values_of_line (Cha channel.now)) }
 {
     selection.location.matches(&channel.name.location)
@@ -90,12 +96,64 @@ fn has_inner_channel(selection: &Selection, station: &StationEpoch, lines: &[Lin
         .any(|line| is_channel_line(selection, station, line))
 }
 
-// Whether the station has a channel that the selection asks for.
-fn has_channel(catalog: &Catalog, selection: &Selection, station: &StationEpoch) -> bool
-    ensures { result ≡ has_channel catalog.now selection.now (values_of_line (Sta station.now)) }
+// Whether one of the station's channels, which these are, is; the selection asks for one location.
+fn has_channel_at(
+    catalog: &Catalog,
+    selection: &Selection,
+    station: &StationEpoch,
+    location: Code,
+    lines: &[Line],
+) -> bool
+    requires location { single_code selection.now.location ≡ Some location }
+    requires lines { map values_of_line lines.now ≡ channels_of (values_of_line (Sta station.now)) catalog.now }
+    ensures { result ≡ list_any (is_inner_channel selection.now (values_of_line (Sta station.now))) (channels_of (values_of_line (Sta station.now)) catalog.now) }
+{
+    // The live lines are in order, and so are these.
+    let _ = catalog.lines();
+    let section = Section {
+        place: Place {
+            network: station.network,
+            station: station.station,
+        },
+        location,
+        channel: selection.channel.single(),
+    };
+    has_inner_channel(selection, station, lines_in(lines, &section))
+}
+
+// The same of any selection, where the lines are too many to walk them all.
+fn has_channel_of_many(
+    catalog: &Catalog,
+    selection: &Selection,
+    station: &StationEpoch,
+    lines: &[Line],
+) -> bool
+    requires { map values_of_line lines.now ≡ channels_of (values_of_line (Sta station.now)) catalog.now }
+    ensures { result ≡ list_any (is_inner_channel selection.now (values_of_line (Sta station.now))) (channels_of (values_of_line (Sta station.now)) catalog.now) }
+{
+    match selection.location.single() {
+        Some(location) => has_channel_at(catalog, selection, station, location, lines),
+        None => has_inner_channel(selection, station, lines),
+    }
+}
+
+// Whether one of the station's channels is.
+fn has_channel_inside(catalog: &Catalog, selection: &Selection, station: &StationEpoch) -> bool
+    ensures { result ≡ list_any (is_inner_channel selection.now (values_of_line (Sta station.now))) (channels_of (values_of_line (Sta station.now)) catalog.now) }
 {
     let family = Family::ChannelsOf(station.network, station.station);
-    takes_all_channels(selection) || has_inner_channel(selection, station, catalog.family(&family))
+    let lines = catalog.family(&family);
+    if lines.len() > FEW_LINES {
+        return has_channel_of_many(catalog, selection, station, lines);
+    }
+    has_inner_channel(selection, station, lines)
+}
+
+/// Whether the station has a channel that the selection asks for.
+pub fn has_channel(catalog: &Catalog, selection: &Selection, station: &StationEpoch) -> bool
+    ensures { result ≡ has_channel catalog.now selection.now (values_of_line (Sta station.now)) }
+{
+    takes_all_channels(selection) || has_channel_inside(catalog, selection, station)
 }
 
 // Whether the selection matches the station, and it lies in the area.
@@ -168,6 +226,53 @@ fn takes_all_stations(area: &Area, selection: &Selection) -> bool
     is_every(&selection.station) && takes_all_channels(selection) && area.is_everywhere()
 }
 
+// Whether one of the network's stations of a code is.
+fn has_station_at(
+    catalog: &Catalog,
+    area: &Area,
+    selection: &Selection,
+    network: &NetworkEpoch,
+    station: Code,
+) -> bool
+    requires { single_code selection.now.station ≡ Some station }
+    ensures { result ≡ list_any (is_inner_station catalog.now area.now selection.now (values_of_line (Net network.now))) (stations_of (values_of_line (Net network.now)) catalog.now) }
+{
+    let place = Place {
+        network: network.network,
+        station,
+    };
+    let lines = lines_at(catalog.lines(), Level::Station, &place);
+    has_inner_station(catalog, area, selection, network, lines)
+}
+
+// Whether one of the network's stations is.
+fn has_station_of_all(
+    catalog: &Catalog,
+    area: &Area,
+    selection: &Selection,
+    network: &NetworkEpoch,
+) -> bool
+    ensures { result ≡ list_any (is_inner_station catalog.now area.now selection.now (values_of_line (Net network.now))) (stations_of (values_of_line (Net network.now)) catalog.now) }
+{
+    let family = Family::StationsOf(network.network);
+    has_inner_station(catalog, area, selection, network, catalog.family(&family))
+}
+
+// Whether one of the network's stations is; where the selection asks for one code, only its epochs are tested.
+fn has_station_inside(
+    catalog: &Catalog,
+    area: &Area,
+    selection: &Selection,
+    network: &NetworkEpoch,
+) -> bool
+    ensures { result ≡ list_any (is_inner_station catalog.now area.now selection.now (values_of_line (Net network.now))) (stations_of (values_of_line (Net network.now)) catalog.now) }
+{
+    match selection.station.single() {
+        Some(station) => has_station_at(catalog, area, selection, network, station),
+        None => has_station_of_all(catalog, area, selection, network),
+    }
+}
+
 // Whether the network has a station that is asked for.
 fn has_station(
     catalog: &Catalog,
@@ -177,9 +282,7 @@ fn has_station(
 ) -> bool
     ensures { result ≡ has_station catalog.now area.now selection.now (values_of_line (Net network.now)) }
 {
-    let family = Family::StationsOf(network.network);
-    takes_all_stations(area, selection)
-        || has_inner_station(catalog, area, selection, network, catalog.family(&family))
+    takes_all_stations(area, selection) || has_station_inside(catalog, area, selection, network)
 }
 
 // Whether the selection matches the network, and its window is met.
@@ -187,29 +290,6 @@ fn names_network(selection: &Selection, network: &NetworkEpoch) -> bool
     ensures { result ≡ names_network selection.now (values_of_line (Net network.now)) }
 {
     selection.network.matches(&network.network) && network_epoch(network).meets(selection)
-}
-
-fn names_station(selection: &Selection, station: &StationEpoch) -> bool
-    ensures { result ≡ names_station selection.now (values_of_line (Sta station.now)) }
-{
-    selection.station.matches(&station.station)
-        && selection.network.matches(&station.network)
-        && station_epoch(station).meets(selection)
-}
-
-// Whether the selection matches the channel's network and station, and its window is met.
-fn names_place(selection: &Selection, channel: &ChannelEpoch) -> bool
-    ensures { result ≡ names_station selection.now (values_of_line (Cha channel.now)) }
-{
-    selection.station.matches(&channel.name.station)
-        && selection.network.matches(&channel.name.network)
-        && channel_epoch(channel).meets(selection)
-}
-
-fn names_channel(selection: &Selection, channel: &ChannelEpoch) -> bool
-    ensures { result ≡ names_channel selection.now (values_of_line (Cha channel.now)) }
-{
-    matches_channel(selection, channel) && names_place(selection, channel)
 }
 
 // Whether some selection asks for the network.
@@ -221,26 +301,6 @@ fn selects_network(catalog: &Catalog, query: &StationQuery, network: &NetworkEpo
     })
 }
 
-// Whether some selection asks for the station.
-fn selects_station(catalog: &Catalog, query: &StationQuery, station: &StationEpoch) -> bool
-    ensures { result ≡ selects_station catalog.now query.now (values_of_line (Sta station.now)) }
-{
-    query.selections.as_slice().iter().any(|selection| {
-        names_station(selection, station) && has_channel(catalog, selection, station)
-    })
-}
-
-// Whether some selection asks for the channel.
-fn selects_channel(query: &StationQuery, channel: &ChannelEpoch) -> bool
-    ensures { result ≡ selects_channel query.now (values_of_line (Cha channel.now)) }
-{
-    query
-        .selections
-        .as_slice()
-        .iter()
-        .any(|selection| names_channel(selection, channel))
-}
-
 // Whether the network is asked for.
 fn asks_for_network(catalog: &Catalog, query: &StationQuery, network: &NetworkEpoch) -> bool
     ensures { result ≡ asks_network catalog.now query.now (values_of_line (Net network.now)) }
@@ -248,73 +308,28 @@ fn asks_for_network(catalog: &Catalog, query: &StationQuery, network: &NetworkEp
     network_epoch(network).passes_comparisons(query) && selects_network(catalog, query, network)
 }
 
-// Whether the station passes the comparisons and lies in the area.
-fn is_eligible_station(query: &StationQuery, station: &StationEpoch) -> bool
+/// Whether the station passes the comparisons and lies in the area.
+pub fn is_eligible_station(query: &StationQuery, station: &StationEpoch) -> bool
     ensures { result ≡ is_eligible query.now (values_of_line (Sta station.now)) }
 {
     station_epoch(station).passes_comparisons(query)
         && query.area.contains(station.latitude, station.longitude)
 }
 
-// Whether the station is asked for.
-fn asks_for_station(catalog: &Catalog, query: &StationQuery, station: &StationEpoch) -> bool
-    ensures { result ≡ asks_station catalog.now query.now (values_of_line (Sta station.now)) }
-{
-    is_eligible_station(query, station) && selects_station(catalog, query, station)
-}
-
-// Whether the channel passes the comparisons and lies in the area.
-fn is_eligible_channel(query: &StationQuery, channel: &ChannelEpoch) -> bool
+/// Whether the channel passes the comparisons and lies in the area.
+pub fn is_eligible_channel(query: &StationQuery, channel: &ChannelEpoch) -> bool
     ensures { result ≡ is_eligible query.now (values_of_line (Cha channel.now)) }
 {
     channel_epoch(channel).passes_comparisons(query)
         && query.area.contains(channel.latitude, channel.longitude)
 }
 
-// Whether the channel is asked for.
-fn asks_for_channel(query: &StationQuery, channel: &ChannelEpoch) -> bool
-    ensures { result ≡ asks_channel query.now (values_of_line (Cha channel.now)) }
-{
-    is_eligible_channel(query, channel) && selects_channel(query, channel)
-}
-
-// Whether the line is that of a network that is asked for.
-fn asks_network(catalog: &Catalog, query: &StationQuery, line: &Line) -> bool
+/// Whether the line is that of a network that is asked for.
+pub fn asks_network(catalog: &Catalog, query: &StationQuery, line: &Line) -> bool
     ensures { result ≡ asks_network catalog.now query.now (values_of_line line.now) }
 {
     match line {
         Line::Net(network) => asks_for_network(catalog, query, network),
         _ => false,
-    }
-}
-
-// Whether the line is that of a station that is asked for.
-fn asks_station(catalog: &Catalog, query: &StationQuery, line: &Line) -> bool
-    ensures { result ≡ asks_station catalog.now query.now (values_of_line line.now) }
-{
-    match line {
-        Line::Sta(station) => asks_for_station(catalog, query, station),
-        _ => false,
-    }
-}
-
-// Whether the line is that of a channel that is asked for.
-fn asks_channel(query: &StationQuery, line: &Line) -> bool
-    ensures { result ≡ asks_channel query.now (values_of_line line.now) }
-{
-    match line {
-        Line::Cha(channel) => asks_for_channel(query, channel),
-        _ => false,
-    }
-}
-
-/// Whether the query asks for the line.
-pub fn is_line_asked(catalog: &Catalog, query: &StationQuery, line: &Line) -> bool
-    ensures { result ≡ is_line_asked catalog.now query.now (values_of_line line.now) }
-{
-    match query.level {
-        Level::Network => asks_network(catalog, query, line),
-        Level::Station => asks_station(catalog, query, line),
-        Level::Channel => asks_channel(query, line),
     }
 }

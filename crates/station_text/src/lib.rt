@@ -12,8 +12,13 @@
 
 mod answers;
 mod asked;
+mod found;
+mod groups;
 mod law;
 mod lines;
+mod matched;
+mod place;
+mod sections;
 mod windows;
 
 pub use answers::answer;

@@ -1,13 +1,12 @@
 //! The lines of the text answers.
-ghost use Rattle.std.specs.Prelude.{◌≡◌, [], ◌++◌, List, map, true, IfOk, OnOk};
-ghost use Rattle.std.specs.List.{AllByRecursion, filter_map};
+ghost use Rattle.std.specs.Prelude.{◌≡◌, ◌^◌, ◌<◌, ◌++◌, List, map, Some, true, IfOk, OnOk};
+ghost use Rattle.std.specs.List.{AllByRecursion};
 ghost use Rattle.epochs.specs.Lines.{LineValues};
 ghost use Rattle.epochs.specs.Views.{values_of_line};
 ghost use Rattle.epochs.specs.declared.line.Line.TheVariants.{Net, Sta, Cha};
 ghost use Rattle.epoch_rules.specs.Rules.{is_epoch};
-ghost use Rattle.list_laws.specs.InOrder.{in_order};
-ghost use Rattle.epoch_rules.specs.KeyOrder.{text_cmp};
 ghost use Rattle.station_text.specs.Asked.{station_within, total_stations};
+ghost use Rattle.station_text.specs.Counts.{is_last, with_code, counted_from, none_counted};
 ghost use Rattle.station_text.specs.Texts.{header_text, line_text, answer_text};
 ghost use Rattle.station_text.specs.Lines.{line_at};
 
@@ -19,7 +18,6 @@ use exact_time::{OutOfMemory, Text};
 use line_columns::{Column, write_columns};
 use query_words::Level;
 use std::alloc::Global;
-use std::collections::BTreeSet;
 
 // The code of the station whose epoch the line is, if that is within the network's.
 fn station_within(network: &NetworkEpoch, line: &Line) -> Option<Code>
@@ -41,34 +39,69 @@ fn code_within(network: &NetworkEpoch, station: &StationEpoch) -> Option<Code>
     }
 }
 
-// The codes of the stations of some lines whose epochs are within the network's.
-fn codes_within(
-    alloc: Global,
-    network: &NetworkEpoch,
-    lines: &[Line],
-) -> Result<BTreeSet<Code>, OutOfMemory>
-    ensures { IfOk result (λ codes. codes.keys ≡ in_order text_cmp [] (filter_map (station_within (values_of_line (Net network.now))) (map values_of_line lines.now))) }
+// How many codes were counted, and the last of them.
+#[derive(Clone, Copy)]
+struct Counted {
+    codes: usize,
+    last: Option<Code>,
+}
+
+fn is_last(last: Option<Code>, code: Code) -> bool
+    ensures { result ≡ is_last last code }
 {
-    let mut codes = BTreeSet::new(alloc);
-    'lines: for line in lines {
-        if let Some(code) = station_within(network, line) {
-            codes.insert(code)?;
-        }
+    match last {
+        Some(last) => last == code,
+        None => false,
     }
-    Ok(codes)
+}
+
+// One code more, if it isn't the last that was counted.
+fn with_code(before: Counted, code: Option<Code>) -> Counted
+    requires { before.codes < 2 ^ 63 }
+    ensures { result ≡ with_code before code }
+{
+    match code {
+        Some(code) => with_next(before, code),
+        None => before,
+    }
+}
+
+fn with_next(before: Counted, code: Code) -> Counted
+    requires { before.codes < 2 ^ 63 }
+    ensures { result ≡ with_code before (Some code) }
+{
+    if is_last(before.last, code) {
+        return before;
+    }
+    Counted {
+        codes: before.codes + 1,
+        last: Some(code),
+    }
+}
+
+// How many codes the stations of some lines have whose epochs are within the network's, where lines of one code
+// stand together.
+fn count_within(network: &NetworkEpoch, lines: &[Line]) -> usize
+    ensures { result ≡ (counted_from none_counted (map (station_within (values_of_line (Net network.now))) (map values_of_line lines.now))).codes }
+{
+    let mut counted = Counted {
+        codes: 0,
+        last: None,
+    };
+    'lines: for line in lines {
+        counted = with_code(counted, station_within(network, line));
+    }
+    counted.codes
 }
 
 // How many stations have an epoch within the network's.
-fn total_stations(
-    alloc: Global,
-    catalog: &Catalog,
-    network: &NetworkEpoch,
-) -> Result<u64, OutOfMemory>
-    ensures { IfOk result (λ total. total ≡ total_stations catalog.now (values_of_line (Net network.now))) }
+fn total_stations(catalog: &Catalog, network: &NetworkEpoch) -> u64
+    ensures { result ≡ total_stations catalog.now (values_of_line (Net network.now)) }
 {
-    let family = Family::StationsOf(network.network);
-    let codes = codes_within(alloc, network, catalog.family(&family))?;
-    Ok(codes.len() as u64)
+    // The live lines are in order: those of one code stand together, and need no set.
+    let _ = catalog.lines();
+    let stations = catalog.family(&Family::StationsOf(network.network));
+    count_within(network, stations) as u64
 }
 
 fn write_network(
@@ -79,7 +112,7 @@ fn write_network(
 ) -> Result<(), OutOfMemory>
     ensures { OnOk result (out.new ≡ out.old ++ line_text catalog.now (values_of_line (Net network.now))) }
 {
-    let total = total_stations(alloc, catalog, network)?;
+    let total = total_stations(catalog, network);
     write_columns(
         alloc,
         out,

@@ -1,0 +1,11 @@
+use Rattle.epochs.specs.declared.line.Line.TheVariants.{Sta}
+use Rattle.epochs.specs.Lines.{LineValues}
+use Rattle.epochs.specs.Views.{values_of_line}
+use Rattle.station_text.specs.Asked.{is_inner_channel, channels_of}
+use Rattle.station_text.proofs.Inside.{any_seen}
+use Rattle.station_text.proofs.asked.has_channel_inside.Goals as goal
+
+pub returns : goal.returns
+returns c =
+    let e : LineValues = values_of_line (Sta c.args.station.now) in
+    any_seen (is_inner_channel c.args.selection.now e) c.family-lines.result.now (channels_of e c.args.catalog.now) c.has_inner_channel.result c.family-lines.ensures c.has_inner_channel.ensures
