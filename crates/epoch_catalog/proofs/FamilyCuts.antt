@@ -1,6 +1,5 @@
 -- The lines of a family are those between two places of the lines in order.
-use Rattle.std.proofs.Common.{◌≡◌, ℕ, zero, suc, ◌<◌, ◌≤◌, Bool, true, false, List, [], ◌∷◌, length, take, drop, map, filter, refl, ap, sym, ◌∙◌, slice_index_or, arith}
-use Rattle.std.specs.Bool.{⊤}
+use Rattle.std.proofs.Common.{◌≡◌, ℕ, zero, suc, ◌≤◌, Bool, true, false, List, [], ◌∷◌, length, take, drop, map, filter, refl, ap, sym, ◌∙◌}
 use Rattle.std.specs.declared.cmp.Ordering.{Ordering}
 use Rattle.std.specs.declared.cmp.Ordering.TheVariants.{Less, Equal, Greater}
 use Rattle.std.specs.Ordering.{is_lt, is_eq, is_le}
@@ -10,11 +9,12 @@ use Rattle.std.proofs.lemmas.Bool.{true≢false}
 use Rattle.epochs.specs.declared.line.Line.{Line}
 use Rattle.epochs.specs.Views.{values_of_line}
 use Rattle.epoch_catalog.specs.declared.families.Family.{Family}
+use Rattle.epoch_rules.proofs.Halves.{Rises, parted, rises_mapped}
 use Rattle.epoch_rules.specs.Catalog.{IsCatalog}
 use Rattle.epoch_rules.specs.KeyOrder.{key_parts_of, line_cmp}
 use Rattle.epoch_rules.specs.LiveLines.{is_said}
 use Rattle.epoch_catalog.specs.Families.{is_in, family_place}
-use Rattle.epoch_catalog.proofs.Cuts.{IsPlaced, all_mapped, filter_mapped, cut_between}
+use Rattle.epoch_rules.proofs.Cuts.{IsPlaced, all_mapped, filter_mapped, cut_between}
 use Rattle.epoch_catalog.proofs.FamilyPlaces.{before_stays, within_stays, in_by_place}
 
 -- where a line stands to a family
@@ -26,28 +26,6 @@ is_before f line = is_lt (place_at f line)
 
 abbrev pub is_not_behind : Family → Line → Bool
 is_not_behind f line = is_le (place_at f line)
-
-abbrev pub Rises : {X : Type 0} → (X → X → Type 0) → List X → Type 0
-Rises R [] = ⊤
-Rises R (x ∷ xs) = AllByRecursion (R x) xs × Rises R xs
-
-one_of : {X : Type 0} (P : X → Type 0) (xs : List X) → AllByRecursion P xs → (j : ℕ) (d : X) → j < length xs → P (slice_index_or xs j d)
-one_of P [] all j d lt = absurd (omega (arith, lt))
-one_of P (x ∷ xs) all zero d lt = all.0
-one_of P (x ∷ xs) all (suc j) d lt = one_of P xs all.1 j d (omega (arith, lt))
-
--- a test that goes back along the order cuts each list in order in two
-pub parted : {X : Type 0} (R : X → X → Type 0) (p : X → Bool) → ((x y : X) → R x y → p y ≡ true → p x ≡ true) → (xs : List X) → Rises R xs → IsPartitionedBy p xs
-parted R p step [] h i j d le lt k = absurd (omega (arith, lt))
-parted R p step (x ∷ xs) h zero zero d le lt k = k
-parted R p step (x ∷ xs) h zero (suc j) d le lt k = step x (slice_index_or xs j d) (one_of (R x) xs h.0 j d (omega (arith, lt))) k
-parted R p step (x ∷ xs) h (suc i) zero d le lt k = absurd (omega (arith, le))
-parted R p step (x ∷ xs) h (suc i) (suc j) d le lt k = parted R p step xs h.1 i j d (omega (arith, le)) (omega (arith, lt)) k
-
-rises_mapped : (lines : List Line) → IsStrictlySortedBy line_cmp (map values_of_line lines) → Rises (λ x y. line_cmp (values_of_line x) (values_of_line y) ≡ Less) lines
-unfolding IsStrictlySortedBy
-rises_mapped [] h = tt
-rises_mapped (x ∷ xs) h = (all_mapped (λ e. line_cmp (values_of_line x) e ≡ Less) values_of_line xs h.0, rises_mapped xs h.1)
 
 rises_dropped : {X : Type 0} (R : X → X → Type 0) (n : ℕ) (xs : List X) → Rises R xs → Rises R (drop n xs)
 rises_dropped R zero xs h = h

@@ -4,44 +4,20 @@ use Rattle.std.proofs.Common.{◌≡◌, ℕ, zero, suc, ◌+◌, ◌<◌, Bool,
 use Rattle.std.specs.Option.{is_some}
 use Rattle.std.specs.List.{list_any, AllByRecursion, IsDistinct}
 use Rattle.std.specs.List.Sorted.{IsPermutation, IsSortedBy, IsStrictlySortedBy}
-use Rattle.std.specs.Ordering.{is_eq, is_lt, eq_by_cmp, match_ordering, ordering_reverse}
+use Rattle.std.specs.Ordering.{is_eq, is_lt, eq_by_cmp, ordering_reverse}
 use Rattle.std.specs.declared.cmp.Ordering.TheVariants.{Less, Equal, Greater}
-use Rattle.std.specs.BTreeSet.{insert_key}
-use Rattle.std.proofs.lemmas.Cmp.{alike_right}
 use Rattle.std.proofs.lemmas.List.Sorted.{Contains-permutation, IsPermutation-reverse, IsPermutation-trans, list_any-IsPermutation}
 use Rattle.std.proofs.lemmas.Map.Entries.{option_filter}
 use Rattle.std.proofs.lemmas.Map.Keys.{IsDistinct-IsPermutation}
 use Rattle.epochs.specs.Lines.{LineValues}
-use Rattle.epoch_rules.specs.declared.key_order.KeyView.{KeyView}
-use Rattle.epoch_rules.specs.KeyOrder.{KeyParts, line_cmp, have_one_key, parts_cmp}
-use Rattle.epoch_rules.specs.KeyViews.{parts_of_view}
+use Rattle.epoch_rules.specs.KeyOrder.{line_cmp, have_one_key}
 use Rattle.epoch_rules.specs.LiveLines.{is_replaced, last_lines}
 use Rattle.epoch_rules.proofs.KeptCatalog.{eq_turned}
 use Rattle.epoch_rules.proofs.LiveByKey.{first_last, none_there}
 use Rattle.epoch_rules.proofs.Lookups.{any_first, first_of, is_equal, last_of, last_sorted}
-use Rattle.epoch_rules.proofs.Members.{or_same, or_swap}
-use Rattle.epoch_rules.proofs.Orders.{lines_total, parts_total}
+use Rattle.epoch_rules.proofs.Orders.{lines_total}
 use Rattle.epoch_catalog.proofs.LiveMembers.{contains_found, found_contained}
 use Rattle.std.proofs.lemmas.Bool.{or_parts}
-
-abbrev pub views_cmp : KeyView → KeyView → Ordering
-views_cmp a b = parts_cmp (parts_of_view a) (parts_of_view b)
-
-abbrev pub is_view_of : KeyParts → KeyView → Bool
-is_view_of p v = is_eq (parts_cmp p (parts_of_view v))
-
--- a key put into a set is found besides
-pub key_inserted : (p : KeyParts) (keys : List KeyView) (k : KeyView) → list_any (is_view_of p) (insert_key views_cmp keys k) ≡ (is_view_of p k || list_any (is_view_of p) keys)
-key_inserted p [] k = refl
-key_inserted p (x ∷ keys) k =
-    let test = is_view_of p in
-    elim (views_cmp k x) as (λ o. views_cmp k x ≡ o → list_any test (match_ordering o (k ∷ x ∷ keys) (x ∷ keys) (x ∷ insert_key views_cmp keys k)) ≡ (test k || (test x || list_any test keys))) [
-      | Less ↦ λ _. refl
-      | Equal ↦ λ e.
-          (let same : test x ≡ test k = ap is_eq (sym (alike_right parts_total (parts_of_view k) (parts_of_view x) p e)) in
-          ap (λ b. b || list_any test keys) same ∙ or_same (test k) (list_any test keys) ∙ ap (λ b. test k || (b || list_any test keys)) (sym same))
-      | Greater ↦ λ _. ap (λ b. test x || b) (key_inserted p keys k) ∙ or_swap (test x) (test k) (list_any test keys)
-    ] refl
 
 pub none_at : {X : Type 0} (p : X → Bool) (xs : List X) → ((k : ℕ) (d : X) → k < length xs → p (get_or xs k d) ≡ false) → list_any p xs ≡ false
 none_at p [] h = refl

@@ -1,5 +1,4 @@
 pub mod CopiedGlobs
-pub mod Cuts
 pub mod FamilyCuts
 pub mod FamilyPlaces
 pub mod Heads

@@ -9,8 +9,8 @@ use Rattle.epochs.specs.Lines.{LineValues}
 use Rattle.epoch_catalog.specs.declared.families.Family.{Family}
 use Rattle.epoch_catalog.specs.Families.{is_in}
 use Rattle.epoch_catalog.specs.Wide.{is_wide, places_from, wide_places, wide_in, StandAt}
-use Rattle.epoch_catalog.proofs.Cuts.{IsPlaced, filter_none, filter_whole, filter_joined, halves}
-use Rattle.epoch_catalog.proofs.FamilyCuts.{Rises, parted}
+use Rattle.epoch_rules.proofs.Cuts.{IsPlaced, filter_none, filter_whole, filter_joined, halves}
+use Rattle.epoch_rules.proofs.Halves.{Rises, parted}
 
 -- a number within a range, by the tests that cut off those before and behind
 pub number_placed : (start end n : ℕ) → IsPlaced (λ n. nat_le start n && nat_lt n end) (λ n. nat_lt n start) (λ n. nat_lt n end) n

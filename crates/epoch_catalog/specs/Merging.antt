@@ -1,20 +1,15 @@
 -- The last new lines of their keys, found from the last line to the first; and how live lines and these are
 -- merged, from the last key to the first.
-use Rattle.std.specs.Prelude.{◌≡◌, Bool, List, [], ◌∷◌, ◌++◌, reverse}
-use Rattle.std.specs.List.{list_any, AllByRecursion}
+use Rattle.std.specs.Prelude.{◌≡◌, List, [], ◌∷◌, ◌++◌, reverse}
+use Rattle.std.specs.List.{AllByRecursion}
 use Rattle.std.specs.declared.cmp.Ordering.{Ordering}
 use Rattle.std.specs.declared.cmp.Ordering.TheVariants.{Less, Equal, Greater}
-use Rattle.std.specs.Ordering.{is_eq}
 use Rattle.std.specs.BTreeSet.{BTreeSet}
 use Rattle.epochs.specs.Lines.{LineValues}
 use Rattle.epoch_rules.specs.declared.key_order.KeyView.{KeyView}
-use Rattle.epoch_rules.specs.KeyOrder.{line_cmp, parts_cmp, key_parts_of}
-use Rattle.epoch_rules.specs.KeyViews.{parts_of_view}
+use Rattle.epoch_rules.specs.KeyOrder.{line_cmp}
+use Rattle.epoch_rules.specs.Overlays.{has_key}
 use Rattle.epoch_rules.specs.LiveLines.{is_replaced, last_lines}
-
--- a key is the line's
-abbrev pub has_key : BTreeSet KeyView → LineValues → Bool
-has_key keys e = list_any (λ v. is_eq (parts_cmp (key_parts_of e) (parts_of_view v))) keys.keys
 
 -- the keys are those of the lines, and the heads are the last line of each key
 pub record AreFound (lines : List LineValues) (keys : BTreeSet KeyView) (heads : List LineValues) : Type 0 where

@@ -11,7 +11,7 @@ ghost use Rattle.epoch_rules.specs.Kept.{AreKept, RefusesLines, check_answer, fi
 ghost use Rattle.epoch_rules.specs.LiveLines.{live_lines};
 
 use crate::families::{Family, family_in};
-use crate::merging::merge;
+use crate::merging::{heads_of, merge};
 use crate::users::user_in;
 use crate::wide::{note_wide, wide_of};
 use epoch_rules::{CheckFault, Index, check_lines};
@@ -106,14 +106,17 @@ impl Catalog {
         ensures kept { IsCatalog self.new }
     {
         let alloc = *self.lines.allocator();
-        let index = self
-            .index
-            .after(alloc, self.lines.as_slice(), lines.as_slice())?;
-        let mut wide = Vec::with_capacity(alloc, self.lines.len() + lines.len())?;
-        merge(&mut self.lines, lines.as_slice())?;
+        let mut heads = heads_of(alloc, lines.as_slice())?;
+        let most = self.lines.len() + heads.len();
+        let mut behind = Vec::with_capacity(alloc, most)?;
+        let mut wide = Vec::with_capacity(alloc, most)?;
+        self.lines.reserve(heads.len())?;
+        // From here on memory is missing for the index alone, which then stays.
+        self.index
+            .take_in(alloc, self.lines.as_slice(), lines.as_slice())?;
+        merge(&mut self.lines, &mut heads, &mut behind);
         note_wide(&mut wide, self.lines.as_slice());
         self.wide = wide;
-        self.index = index;
         Ok(())
     }
 }

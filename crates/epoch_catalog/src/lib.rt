@@ -11,17 +11,17 @@
 //! last three search by halves. A catalog is seen as the list of its lines, without
 //! memory (`specs/Views.antt` of the crate `epochs`), and its type keeps `IsCatalog`. Beside the lines it keeps
 //! what the rules need of them all (`Index` of the crate `epoch_rules`), so that n lines over N live ones cost
-//! about N + n log N.
+//! about N + n log N, and a check of few lines about n log N.
 //!
 //! The laws of live lines are in `src/law.rt`: a line is live exactly if it is one of the lines, isn't a
 //! deletion, and no later line has its key; what is live after some lines and then others is what is live
 //! after them all; lines that are kept make of a catalog a catalog; and of a name there is one user.
 //!
 //! `src/merging.rt` merges live lines and new ones: it finds the last new line of each key from the last line
-//! to the first, puts these in the order of their keys, copies them (`src/copying.rt`) and takes room for all
-//! lines. Only then it changes the live lines, in one walk from the greatest key to the least: the live lines
-//! of greater keys are moved, that of the same key is dropped, and the new line follows unless it is a
-//! deletion. `src/families.rt`, `src/wide.rt` and `src/users.rt` have the searches.
+//! to the first, puts these in the order of their keys and copies them (`src/copying.rt`). When there is room for all
+//! lines, and the index has taken them in, it changes the live lines, in one walk from the greatest key to the
+//! least new one: the live lines of greater keys are moved, that of the same key is dropped, and the new line
+//! follows unless it is a deletion. `src/families.rt`, `src/wide.rt` and `src/users.rt` have the searches.
 #![tactic(auto)]
 
 mod catalog;

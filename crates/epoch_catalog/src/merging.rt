@@ -1,5 +1,5 @@
 //! Live lines and new ones, merged.
-ghost use Rattle.std.specs.Prelude.{◌≡◌, ◌++◌, [], ◌∷◌, ◌+◌, ◌≤◌, ◌<◌, ◌||◌, false, map, reverse, OnOk, OnErr, IfOk, length, vec_len, vec_capacity, if◌then◌else◌};
+ghost use Rattle.std.specs.Prelude.{◌≡◌, ◌++◌, List, [], ◌∷◌, ◌+◌, ◌≤◌, ◌<◌, ◌||◌, false, map, reverse, OnOk, IfOk, length, vec_len, vec_capacity, if◌then◌else◌};
 ghost use Rattle.std.specs.List.{IsDistinct};
 ghost use Rattle.std.specs.List.Sorted.{IsPermutation, IsStrictlySortedBy};
 ghost use Rattle.std.specs.Ordering.{eq_by_cmp, is_gt};
@@ -8,7 +8,8 @@ ghost use Rattle.epochs.specs.Views.{values_of_line};
 ghost use Rattle.epoch_rules.specs.KeyOrder.{line_cmp, have_one_key};
 ghost use Rattle.epoch_rules.specs.LiveLines.{is_said, last_lines, live_lines};
 ghost use Rattle.epoch_rules.specs.Catalog.{IsCatalog};
-ghost use Rattle.epoch_catalog.specs.Merging.{has_key, last_place, AreMoved, AreBefore};
+ghost use Rattle.epoch_rules.specs.Overlays.{has_key};
+ghost use Rattle.epoch_catalog.specs.Merging.{last_place, AreMoved, AreBefore};
 
 use crate::copying::copy_line;
 use epoch_rules::{KeyView, cmp_keys, is_said, key_view};
@@ -143,22 +144,28 @@ fn put_behind(lines: &mut Vec<Line>, more: &mut Vec<Line>)
     let _ = lines.append(more);
 }
 
-/// Makes live lines those after some more lines, in one walk over both in the order of their keys. Copies
-/// the last of the new lines of each key, and needs memory only before anything changes: where it is missing,
-/// the live lines stay.
-pub fn merge(live: &mut Vec<Line>, lines: &[Line]) -> Result<(), OutOfMemory>
-    requires { IsCatalog (map values_of_line live.old.items) }
-    ensures ok { OnOk result (map values_of_line live.new.items ≡ live_lines (map values_of_line live.old.items ++ map values_of_line lines.now)) }
-    ensures few { OnOk result (length live.new.items ≤ length live.old.items + length lines.now) }
-    ensures err { OnErr result (live.new.items ≡ live.old.items) }
+/// Copies of the last of some lines of each key, in the order of keys.
+pub fn heads_of(alloc: Global, lines: &[Line]) -> Result<Vec<Line>, OutOfMemory>
+    ensures rise { IfOk result (λ heads. IsStrictlySortedBy line_cmp (map values_of_line heads.items)) }
+    ensures lines { IfOk result (λ heads. (live : List LineValues) → live_lines (live ++ map values_of_line heads.items) ≡ live_lines (live ++ map values_of_line lines.now)) }
 {
-    let alloc = *live.allocator();
     let mut heads = find_heads(alloc, lines)?;
     sort_heads(&mut heads);
-    let mut copies = copy_all(alloc, &heads)?;
-    let mut behind = Vec::with_capacity(alloc, live.len() + copies.len())?;
-    live.reserve(copies.len())?;
-    merge_heads(live, &mut copies, &mut behind);
-    put_behind(live, &mut behind);
-    Ok(())
+    let copies = copy_all(alloc, &heads)?;
+    Ok(copies)
+}
+
+/// Makes live lines those after some heads, which are in the order of keys, and for which there is room, behind
+/// other lines too. Takes no memory.
+pub fn merge(live: &mut Vec<Line>, heads: &mut Vec<Line>, behind: &mut Vec<Line>)
+    requires catalog { IsCatalog (map values_of_line live.old.items) }
+    requires rise { IsStrictlySortedBy line_cmp (map values_of_line heads.old.items) }
+    requires empty { behind.old.items ≡ [] }
+    requires live_room { vec_len live.old + vec_len heads.old ≤ vec_capacity live.old }
+    requires behind_room { vec_len live.old + vec_len heads.old ≤ vec_capacity behind.old }
+    ensures lines { map values_of_line live.new.items ≡ live_lines (map values_of_line live.old.items ++ map values_of_line heads.old.items) }
+    ensures few { length live.new.items ≤ length live.old.items + length heads.old.items }
+{
+    merge_heads(live, heads, behind);
+    put_behind(live, behind);
 }

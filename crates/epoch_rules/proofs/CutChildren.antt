@@ -2,7 +2,6 @@
 use Rattle.std.proofs.Common.{◌≡◌, ◌∙◌, ℕ, ◌==◌, ◌<◌, Bool, true, false, not, ◌&&◌, ◌||◌, List, [], filter, if◌then◌else◌, refl, sym, ap, arith, eq-eqb}
 use Rattle.std.specs.List.{list_any}
 use Rattle.std.specs.Str.{bytes_eq}
-use Rattle.std.specs.BTreeSet.{BTreeSet}
 use Rattle.std.proofs.lemmas.Bool.{and_parts, both_ways, eqb-true, false_from_ne_true}
 use Rattle.epochs.specs.declared.kinds.LineKind.{LineKind}
 use Rattle.epochs.specs.declared.kinds.LineKind.TheVariants.{Net, Sta, Cha, Evt, Rst, Grt, Usr}
@@ -11,9 +10,8 @@ use Rattle.epochs.specs.declared.kinds.Head.TheVariants.{Says, Deletes}
 use Rattle.epochs.specs.Fields.{Value}
 use Rattle.epochs.specs.Kinds.{Text}
 use Rattle.epochs.specs.Lines.{LineValues, line_values, end_of}
-use Rattle.epoch_rules.specs.declared.endings.Ending.{Ending}
 use Rattle.epoch_rules.specs.Catalog.{IsCatalog}
-use Rattle.epoch_rules.specs.Endings.{HoldsEnds, cut, ending_of, parts_of_ending, is_between, is_child}
+use Rattle.epoch_rules.specs.Endings.{AreEndsOf, EndingParts, cut, ending_of, is_between, is_child}
 use Rattle.epoch_rules.specs.KeyOrder.{key_parts_of, rank_of, have_one_key}
 use Rattle.epoch_rules.specs.LiveLines.{is_said}
 use Rattle.epoch_rules.specs.Losses.{is_cut, is_cut_in, is_grant_of, loses_grants, makes_orphans, new_end, of_network, of_station}
@@ -56,11 +54,11 @@ module _ (live : List LineValues) (is : IsCatalog live) (e : LineValues) (rank :
       (λ o o_in same. none_there live is.rises (is_at_key (key_parts_of e)) o none o_in (and_parts (have_one_key e o) (ends_by (end_of x.values) (end_of o.values)) same).0)) q))
 
   -- the ends between the new and the old one are those that are cut
-  pub ends_cut : (ends : BTreeSet Ending) (o : LineValues) → HoldsEnds ends live → Has live o → have_one_key e o ≡ true
-      → list_any (λ q. is_between (cut rank first second (new_end e)) (cut rank first second (end_of o.values)) (parts_of_ending q)) ends.keys
+  pub ends_cut : (held : (EndingParts → Bool) → Bool) (o : LineValues) → AreEndsOf held live → Has live o → have_one_key e o ≡ true
+      → held (is_between (cut rank first second (new_end e)) (cut rank first second (end_of o.values)))
       ≡ list_any (λ x. is_child x && is_cut_in rank first second live e x) live
-  ends_cut ends o held o_in same =
-      held (is_between (cut rank first second (new_end e)) (cut rank first second (end_of o.values)))
+  ends_cut held o are o_in same =
+      are (is_between (cut rank first second (new_end e)) (cut rank first second (end_of o.values)))
       ∙ any_same (λ x. is_child x && is_between (cut rank first second (new_end e)) (cut rank first second (end_of o.values)) (ending_of x)) (λ x. is_child x && is_cut_in rank first second live e x) live
       (λ x x_in.
       let b = rank == (ending_of x).rank && (bytes_eq first (ending_of x).first && bytes_eq second (ending_of x).second) in

@@ -4,12 +4,12 @@ use Rattle.std.specs.List.{list_any}
 use Rattle.std.specs.List.Sorted.{IsStrictlySortedBy}
 use Rattle.std.specs.Ordering.{is_eq, match_ordering}
 use Rattle.std.specs.declared.cmp.Ordering.TheVariants.{Less, Equal, Greater}
-use Rattle.std.specs.BTreeSet.{BTreeSet, insert_key}
+use Rattle.std.specs.BTreeSet.{insert_key}
 use Rattle.std.proofs.lemmas.Cmp.{tied_itself}
 use Rattle.std.proofs.lemmas.Bool.{and_from, and_parts, both_ways, cases_Bool, not-true, not_from_false}
 use Rattle.epochs.specs.Lines.{LineValues}
 use Rattle.epoch_rules.specs.declared.endings.Ending.{Ending}
-use Rattle.epoch_rules.specs.Endings.{EndingParts, EndsWith, EndsWithout, HoldsEnds, ending_cmp, ending_of, parts_of_ending, is_child}
+use Rattle.epoch_rules.specs.Endings.{EndingParts, AddsEnd, AreEndsOf, DropsEnd, KeepsEnds, ending_cmp, ending_of, parts_of_ending, is_child}
 use Rattle.epoch_rules.specs.KeyOrder.{key_parts_of, line_cmp, have_one_key}
 use Rattle.epoch_rules.proofs.EndingOrder.{endings_total, exact_endings}
 use Rattle.epoch_rules.proofs.FamilyKeys.{has_one_key, one_key}
@@ -17,10 +17,6 @@ use Rattle.epoch_rules.proofs.Lookups.{is_equal}
 use Rattle.epoch_rules.proofs.Members.{Has, all_has, any_has, has_any, or_swap, or_same, same_bool}
 use Rattle.epoch_rules.proofs.Replaced.{sorted_head, sorted_tail}
 use Rattle.epoch_rules.proofs.WithLine.{any_other, any_put, others}
-
--- the set as the list of its keys
-abbrev pub EndsOf : List Ending → List LineValues → Type 0
-EndsOf ends lines = (test : EndingParts → Bool) → list_any (λ q. test (parts_of_ending q)) ends ≡ list_any (λ e. is_child e && test (ending_of e)) lines
 
 -- tests that agree at each element
 pub any_same : {X : Type 0} (p q : X → Bool) (xs : List X) → ((x : X) → Has xs x → p x ≡ q x) → list_any p xs ≡ list_any q xs
@@ -82,9 +78,9 @@ module _ (lines : List LineValues) (up : IsStrictlySortedBy line_cmp lines) (e o
       ]
 
   -- the old line lies in none
-  pub ends_left : (ends : List Ending) → EndsOf ends lines → is_child o ≡ false → EndsOf ends (others e lines)
-  ends_left ends held child test =
-      held test
+  pub ends_left : (held : (EndingParts → Bool) → Bool) → AreEndsOf held lines → is_child o ≡ false → AreEndsOf held (others e lines)
+  ends_left held are child test =
+      are test
       ∙ any_same (λ x. is_child x && test (ending_of x)) (λ x. not (have_one_key e x) && (is_child x && test (ending_of x))) lines
       (λ x x_in.
       elim (cases_Bool (have_one_key e x)) [
@@ -134,37 +130,37 @@ module _ (cmp : Ending → Ending → Ordering) (is : (a b : Ending) → cmp a b
       cond_true false b h = (refl, h)
 
 -- a new line, with its end where it lies in a container
-pub ended_put : (ends more : BTreeSet Ending) (lines : List LineValues) (e : LineValues) → HoldsEnds ends lines → (is_child e ≡ true → EndsWith ends (ending_of e) more) → (is_child e ≡ false → more.keys ≡ ends.keys)
-    → list_any (have_one_key e) lines ≡ false → HoldsEnds more (insert_key line_cmp lines e)
-ended_put ends more lines e held child other absent test =
+pub ended_put : (held more : (EndingParts → Bool) → Bool) (lines : List LineValues) (e : LineValues) → AreEndsOf held lines → (is_child e ≡ true → AddsEnd held (ending_of e) more) → (is_child e ≡ false → KeepsEnds held more)
+    → list_any (have_one_key e) lines ≡ false → AreEndsOf more (insert_key line_cmp lines e)
+ended_put held more lines e are child other absent test =
     elim (cases_Bool (is_child e)) [
       | inl h ↦
           child h test
-          ∙ ap (λ b. test (ending_of e) || b) (held test)
+          ∙ ap (λ b. test (ending_of e) || b) (are test)
           ∙ ap (λ b. (b && test (ending_of e)) || list_any (λ l. is_child l && test (ending_of l)) lines) (sym h)
           ∙ sym (any_put (λ l. is_child l && test (ending_of l)) e lines absent)
       | inr h ↦
-          ap (list_any (λ q. test (parts_of_ending q))) (other h)
-          ∙ held test
+          other h test
+          ∙ are test
           ∙ ap (λ b. (b && test (ending_of e)) || list_any (λ l. is_child l && test (ending_of l)) lines) (sym h)
           ∙ sym (any_put (λ l. is_child l && test (ending_of l)) e lines absent)
     ]
 
 -- the old line is gone, with its end where it lay in a container
-pub ended_cut : (ends fewer : BTreeSet Ending) (lines : List LineValues) (up : IsStrictlySortedBy line_cmp lines) (e o : LineValues) → Has lines o → have_one_key e o ≡ true
-    → HoldsEnds ends lines → (is_child o ≡ true → EndsWithout ends (ending_of o) fewer) → (is_child o ≡ false → fewer.keys ≡ ends.keys) → HoldsEnds fewer (others e lines)
-ended_cut ends fewer lines up e o o_in same held child other test =
+pub ended_cut : (held fewer : (EndingParts → Bool) → Bool) (lines : List LineValues) (up : IsStrictlySortedBy line_cmp lines) (e o : LineValues) → Has lines o → have_one_key e o ≡ true
+    → AreEndsOf held lines → (is_child o ≡ true → DropsEnd held (ending_of o) fewer) → (is_child o ≡ false → KeepsEnds held fewer) → AreEndsOf fewer (others e lines)
+ended_cut held fewer lines up e o o_in same are child other test =
     elim (cases_Bool (is_child o)) [
       | inl h ↦
           (let apart = λ (p : EndingParts). not (is_eq (ending_cmp (ending_of o) p)) && test p in
           child h test
-          ∙ held apart
+          ∙ are apart
           ∙ any_same (λ x. is_child x && apart (ending_of x)) (λ x. not (have_one_key e x) && (is_child x && test (ending_of x))) lines
           (λ x x_in.
           and_swap (is_child x) (not (is_eq (ending_cmp (ending_of o) (ending_of x)))) (test (ending_of x))
           ∙ ap (λ b. not b && (is_child x && test (ending_of x))) (ends_apart lines up e o o_in same x x_in))
           ∙ sym (any_other (λ x. is_child x && test (ending_of x)) e lines))
-      | inr h ↦ ap (list_any (λ q. test (parts_of_ending q))) (other h) ∙ ends_left lines up e o o_in same ends.keys held h test
+      | inr h ↦ other h test ∙ ends_left lines up e o o_in same held are h test
     ]
 
 -- of lines in order one has the key

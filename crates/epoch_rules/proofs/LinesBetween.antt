@@ -1,13 +1,12 @@
 -- Lines of a map between keys.
-use Rattle.std.proofs.Common.{◌≡◌, ◌∙◌, Bool, true, false, not, ◌&&◌, cond, List, [], ◌∷◌, map, filter, Some, refl, sym, ap, subst, Ordering}
+use Rattle.std.proofs.Common.{◌≡◌, ◌∙◌, Bool, true, false, not, ◌&&◌, cond, List, [], ◌∷◌, map, filter, refl, sym, ap, Ordering}
 use Rattle.std.specs.List.{AllByRecursion}
-use Rattle.std.specs.Map.{lookup}
 use Rattle.epochs.specs.Lines.{LineValues}
 use Rattle.epoch_rules.specs.declared.key_order.KeyView.{KeyView}
 use Rattle.epoch_rules.specs.KeyOrder.{key_parts_of, parts_cmp}
 use Rattle.epoch_rules.specs.KeyViews.{parts_of_view}
-use Rattle.epoch_rules.specs.Neighbours.{is_at_key, is_below_key, is_up_to_key, is_above_key, is_from_key, IsFirstOf}
-use Rattle.std.specs.Ordering.{is_eq, is_le, is_lt}
+use Rattle.epoch_rules.specs.Neighbours.{is_below_key, is_up_to_key, is_above_key, is_from_key}
+use Rattle.std.specs.Ordering.{is_le, is_lt}
 use Rattle.std.specs.BTreeMap.Range.{entries_between}
 use Rattle.std.specs.declared.ops.Bound.TheVariants.{Included, Excluded, Unbounded}
 use Rattle.epoch_rules.proofs.LinesOfMap.{Pair, line_at, IsKeyed}
@@ -27,18 +26,6 @@ lines_between test passes same (e ∷ es) all =
 pub compares : (cmp : KeyView → KeyView → Ordering) (is : (a b : KeyView) → cmp a b ≡ parts_cmp (parts_of_view a) (parts_of_view b)) (k : KeyView) (e : Pair) → IsKeyed e → cmp k e.0 ≡ parts_cmp (parts_of_view k) (key_parts_of (line_at e))
 compares cmp is k e there = is k e.0 ∙ ap (parts_cmp (parts_of_view k)) there
 
-first_of : (test : KeyView → Bool) (passes : LineValues → Bool) (e : Pair) (es : List Pair) (b : Bool) → IsFirstOf (filter passes (map line_at es)) (lookup test es)
-    → IsFirstOf (cond b (line_at e ∷ filter passes (map line_at es)) (filter passes (map line_at es))) (cond b (Some e.1) (lookup test es))
-first_of test passes e es true more = (filter passes (map line_at es), refl)
-first_of test passes e es false more = more
-
-pub first_looked_up : (test : KeyView → Bool) (passes : LineValues → Bool) → ((e : Pair) → IsKeyed e → test e.0 ≡ passes (line_at e)) → (es : List Pair) → AllByRecursion IsKeyed es
-    → IsFirstOf (filter passes (map line_at es)) (lookup test es)
-first_looked_up test passes same [] all = refl
-first_looked_up test passes same (e ∷ es) all =
-    subst (λ b. IsFirstOf (cond b (line_at e ∷ filter passes (map line_at es)) (filter passes (map line_at es))) (cond (test e.0) (Some e.1) (lookup test es))) (same e all.0)
-    (first_of test passes e es (test e.0) (first_looked_up test passes same es all.1))
-
 and_true : (b : Bool) → (b && true) ≡ b
 and_true true = refl
 and_true false = refl
@@ -55,6 +42,3 @@ module _ (cmp : KeyView → KeyView → Ordering) (is : (a b : KeyView) → cmp 
 
   pub lines_from : filter (is_from_key (parts_of_view key)) (map line_at es) ≡ map line_at (entries_between cmp (Included key) Unbounded es)
   lines_from = sym (lines_between (λ k. is_le (cmp key k) && true) (is_from_key (parts_of_view key)) (λ e keyed. ap (λ r. is_le r && true) (compares cmp is key e keyed) ∙ and_true (is_le (parts_cmp (parts_of_view key) (key_parts_of (line_at e))))) es all)
-
-  pub line_of_key : IsFirstOf (filter (is_at_key (parts_of_view key)) (map line_at es)) (lookup (λ k. is_eq (cmp key k)) es)
-  line_of_key = first_looked_up (λ k. is_eq (cmp key k)) (is_at_key (parts_of_view key)) (λ e keyed. ap is_eq (compares cmp is key e keyed)) es all

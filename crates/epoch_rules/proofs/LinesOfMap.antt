@@ -1,13 +1,12 @@
 -- A map of lines by their keys, as the list of its lines.
-use Rattle.std.proofs.Common.{◌≡◌, ◌∙◌, Bool, true, false, cond, List, [], ◌∷◌, map, refl, sym, ap, Ordering, ◌||◌, Some}
-use Rattle.std.specs.Option.{is_some}
+use Rattle.std.proofs.Common.{◌≡◌, ◌∙◌, Bool, true, false, cond, List, [], ◌∷◌, map, refl, sym, ap, Ordering}
 use Rattle.std.specs.Borrow.{Bor}
-use Rattle.std.specs.List.{AllByRecursion, list_any}
+use Rattle.std.specs.List.{AllByRecursion}
 use Rattle.std.specs.Ordering.{is_eq, match_ordering}
 use Rattle.std.specs.declared.cmp.Ordering.TheVariants.{Less, Equal, Greater}
 use Rattle.std.specs.BTreeMap.{insert_entry}
 use Rattle.std.specs.BTreeSet.{replace_key}
-use Rattle.std.specs.Map.{remove_entry, lookup}
+use Rattle.std.specs.Map.{remove_entry}
 use Rattle.std.specs.Set.{remove_key}
 use Rattle.epochs.specs.Lines.{LineValues}
 use Rattle.epochs.specs.Views.{values_of_line}
@@ -15,7 +14,6 @@ use Rattle.epochs.specs.declared.line.Line.{Line}
 use Rattle.epoch_rules.specs.declared.key_order.KeyView.{KeyView}
 use Rattle.epoch_rules.specs.KeyOrder.{key_parts_of, parts_cmp, line_cmp, have_one_key}
 use Rattle.epoch_rules.specs.KeyViews.{parts_of_view}
-use Rattle.epoch_rules.specs.Neighbours.{is_at_key}
 use Rattle.epoch_rules.proofs.Exact.{exact_parts}
 
 abbrev pub Pair : Type 0
@@ -68,25 +66,3 @@ cut_keyed test (e ∷ es) all =
       | true ↦ all.1
       | false ↦ (all.0, cut_keyed test es all.1)
     ]
-
--- the key of a query is live
-pub found_line : (cmp : KeyView → KeyView → Ordering) (is : (a b : KeyView) → cmp a b ≡ parts_cmp (parts_of_view a) (parts_of_view b)) (es : List Pair) (k : KeyView) (v : LineValues)
-    → AllByRecursion IsKeyed es → parts_of_view k ≡ key_parts_of v → is_some (lookup (λ q. is_eq (cmp k q)) es) ≡ list_any (have_one_key v) (map line_at es)
-found_line cmp is [] k v all here = refl
-found_line cmp is (e ∷ es) k v all here =
-    elim (is_eq (cmp k e.0)) as (λ b. is_some (cond b (Some e.1) (lookup (λ q. is_eq (cmp k q)) es)) ≡ (b || list_any (have_one_key v) (map line_at es))) [
-      | true ↦ refl
-      | false ↦ found_line cmp is es k v all.1 here
-    ]
-    ∙ ap (λ r. is_eq r || list_any (have_one_key v) (map line_at es)) (compared cmp is k v e here all.0)
-
--- some line has a key
-pub found_key : (cmp : KeyView → KeyView → Ordering) (is : (a b : KeyView) → cmp a b ≡ parts_cmp (parts_of_view a) (parts_of_view b)) (es : List Pair) (k : KeyView)
-    → AllByRecursion IsKeyed es → is_some (lookup (λ q. is_eq (cmp k q)) es) ≡ list_any (is_at_key (parts_of_view k)) (map line_at es)
-found_key cmp is [] k all = refl
-found_key cmp is (e ∷ es) k all =
-    elim (is_eq (cmp k e.0)) as (λ b. is_some (cond b (Some e.1) (lookup (λ q. is_eq (cmp k q)) es)) ≡ (b || list_any (is_at_key (parts_of_view k)) (map line_at es))) [
-      | true ↦ refl
-      | false ↦ found_key cmp is es k all.1
-    ]
-    ∙ ap (λ r. is_eq r || list_any (is_at_key (parts_of_view k)) (map line_at es)) (is k e.0 ∙ ap (parts_cmp (parts_of_view k)) all.0)

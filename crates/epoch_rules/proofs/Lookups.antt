@@ -200,7 +200,7 @@ module _ {E : Type 0} {cmp : E → E → Ordering} (o : IsTotalOrder cmp) where
             ]
       ] refl
 
-  first_more : (q : E) (done keys : List E) → IsStrictlySortedBy cmp done → first_of cmp q (in_order cmp done keys) ≡ option_or (first_of cmp q done) (first_of cmp q keys)
+  pub first_more : (q : E) (done keys : List E) → IsStrictlySortedBy cmp done → first_of cmp q (in_order cmp done keys) ≡ option_or (first_of cmp q done) (first_of cmp q keys)
   first_more q done [] up = sym (or_none (first_of cmp q done))
   first_more q done (k ∷ keys) up =
       let w = cond (is_eq (cmp q k)) (Some k) None in

@@ -58,7 +58,7 @@ pub between_start : (a b : KeyParts) → family_cmp a b ≡ Equal → parts_cmp 
 between_start a b same less =
     starts_less a.start b.start (sym (ap (λ o. ordering_then o (int_cmp a.start b.start)) same) ∙ by_family a b ∙ less)
 
-has_filter : (test : LineValues → Bool) (xs : List LineValues) (y : LineValues) → Has xs y → test y ≡ true → Has (filter test xs) y
+pub has_filter : (test : LineValues → Bool) (xs : List LineValues) (y : LineValues) → Has xs y → test y ≡ true → Has (filter test xs) y
 has_filter test [] y has h = absurd has
 has_filter test (x ∷ xs) y (inl is) h = subst (λ b. Has (cond b (x ∷ filter test xs) (filter test xs)) y) (sym (ap test is ∙ h)) (inl is)
 has_filter test (x ∷ xs) y (inr has) h =
@@ -67,7 +67,7 @@ has_filter test (x ∷ xs) y (inr has) h =
       | false ↦ has_filter test xs y has h
     ]
 
-filter_has : (test : LineValues → Bool) (xs : List LineValues) (y : LineValues) → Has (filter test xs) y → Has xs y × (test y ≡ true)
+pub filter_has : (test : LineValues → Bool) (xs : List LineValues) (y : LineValues) → Has (filter test xs) y → Has xs y × (test y ≡ true)
 filter_has test [] y has = absurd has
 filter_has test (x ∷ xs) y has =
     let more = filter_has test xs y in

@@ -1,12 +1,12 @@
 -- The steps of an outline, over the lists that it stands for.
-use Rattle.std.proofs.Common.{◌≡◌, ◌∙◌, ◌+◌, ◌≤◌, Bool, true, false, cond, List, [], ◌∷◌, filter, map, length, drop, get_or, ℕ, ◌<◌, Some, Result, Ok, Err, OnOk, refl, sym, ap, subst, arith, add-one, drop-cons, Ordering}
+use Rattle.std.proofs.Common.{◌≡◌, ◌∙◌, ◌+◌, ◌≤◌, Bool, true, false, cond, List, [], ◌∷◌, filter, map, length, drop, get_or, ℕ, ◌<◌, Result, Ok, Err, OnOk, refl, sym, ap, arith, add-one, drop-cons, Ordering}
 use Rattle.std.specs.Borrow.{Bor}
 use Rattle.std.specs.List.{list_any, AllByRecursion}
 use Rattle.std.specs.List.Sorted.{IsStrictlySortedBy}
 use Rattle.std.specs.Ordering.{is_eq}
 use Rattle.std.specs.BTreeMap.{insert_entry}
 use Rattle.std.specs.BTreeSet.{insert_key}
-use Rattle.std.specs.Map.{lookup, remove_entry}
+use Rattle.std.specs.Map.{remove_entry}
 use Rattle.epochs.specs.Lines.{LineValues}
 use Rattle.epochs.specs.Views.{values_of_line}
 use Rattle.epochs.specs.declared.line.Line.{Line}
@@ -14,12 +14,8 @@ use Rattle.epoch_rules.specs.declared.key_order.KeyView.{KeyView}
 use Rattle.epoch_rules.specs.KeyOrder.{key_parts_of, parts_cmp, line_cmp, have_one_key}
 use Rattle.epoch_rules.specs.KeyViews.{parts_of_view}
 use Rattle.epoch_rules.specs.LiveLines.{is_said}
-use Rattle.epoch_rules.specs.Neighbours.{is_at_key, IsFirstOf}
 use Rattle.epoch_rules.specs.Rules.{with_line}
-use Rattle.epoch_rules.proofs.LinesBetween.{line_of_key}
 use Rattle.epoch_rules.proofs.LinesOfMap.{Pair, line_at, IsKeyed, put_line, cut_line}
-use Rattle.epoch_rules.proofs.Members.{Has}
-use Rattle.epoch_rules.proofs.Nearest.{first_there}
 use Rattle.epoch_rules.proofs.Orders.{lines_total}
 use Rattle.epoch_rules.proofs.Replaced.{replace_absent, taken_out}
 use Rattle.epoch_rules.proofs.WithLine.{others, with_line_is}
@@ -52,14 +48,6 @@ module _ (cmp : KeyView → KeyView → Ordering) (is : (a b : KeyView) → cmp 
 
   pub cut_lines : (e : LineValues) → parts_of_view k ≡ key_parts_of e → IsStrictlySortedBy line_cmp (map line_at es) → map line_at (remove_entry (λ q. is_eq (cmp k q)) es) ≡ others e (map line_at es)
   cut_lines e here up = cut_line cmp is es k e all here ∙ sym (taken_out lines_total e (map line_at es) up)
-
-  pub old_line : (e : LineValues) (old : Bor Line) → parts_of_view k ≡ key_parts_of e → IsStrictlySortedBy line_cmp (map line_at es) → Some old ≡ lookup (λ q. is_eq (cmp k q)) es
-      → Has (map line_at es) (values_of_line old.now) × (have_one_key e (values_of_line old.now) ≡ true)
-  old_line e old here up found =
-      let lines = map line_at es in
-      let first : IsFirstOf (filter (is_at_key (key_parts_of e)) lines) (Some old) =
-      subst (IsFirstOf (filter (is_at_key (key_parts_of e)) lines)) (sym found) (subst (λ p. IsFirstOf (filter (is_at_key p) lines) (lookup (λ q. is_eq (cmp k q)) es)) here (line_of_key cmp is k es all)) in
-      first_there lines up (is_at_key (key_parts_of e)) first.0 (values_of_line old.now) first.1
 
 -- a line at its place in a list
 pub line_here : (lines : List Line) (i : ℕ) (line : Line) → i < length lines → line ≡ get_or lines i line → map values_of_line (drop i lines) ≡ values_of_line line ∷ map values_of_line (drop (i + 1) lines)

@@ -68,3 +68,8 @@ tidy (line.Del d) = record { starts = λ h. cc; forward = λ h. cc; network = λ
 pub all_tidy : (es : List (KeyView × Bor Line)) → AllByRecursion Tidy (map (λ e. values_of_line e.1.now) es)
 all_tidy [] = tt
 all_tidy (e ∷ es) = (tidy e.1.now, all_tidy es)
+
+-- and so are those of a list
+pub all_tidy_lines : (lines : List Line) → AllByRecursion Tidy (map values_of_line lines)
+all_tidy_lines [] = tt
+all_tidy_lines (l ∷ lines) = (tidy l, all_tidy_lines lines)

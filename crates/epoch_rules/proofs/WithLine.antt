@@ -45,7 +45,7 @@ all_kept p q (x ∷ xs) stays =
     ] refl
 
 -- of the lines of other keys, by key
-first_other : (q e : LineValues) (live : List LineValues) → IsStrictlySortedBy line_cmp live → first_of line_cmp q (others e live) ≡ cond (have_one_key q e) None (first_of line_cmp q live)
+pub first_other : (q e : LineValues) (live : List LineValues) → IsStrictlySortedBy line_cmp live → first_of line_cmp q (others e live) ≡ cond (have_one_key q e) None (first_of line_cmp q live)
 first_other q e live up =
     let p = λ (l : LineValues). not (have_one_key e l) in
     first_filter lines_total p q live up
@@ -63,7 +63,7 @@ first_other q e live up =
           cc)))
     ] refl
 
-others_sorted : (e : LineValues) (live : List LineValues) → IsStrictlySortedBy line_cmp live → IsStrictlySortedBy line_cmp (others e live)
+pub others_sorted : (e : LineValues) (live : List LineValues) → IsStrictlySortedBy line_cmp live → IsStrictlySortedBy line_cmp (others e live)
 others_sorted e live up = IsStrictlySortedBy-filter line_cmp (λ (l : LineValues). not (have_one_key e l)) live up
 
 placed_sorted : (e : LineValues) (live : List LineValues) → IsStrictlySortedBy line_cmp live → (b : Bool) → IsStrictlySortedBy line_cmp (cond b (insert_key line_cmp (others e live) e) (others e live))
@@ -108,7 +108,7 @@ any_put test e (x ∷ xs) none =
       | Greater ↦ λ _. ap (λ b. test x || b) (any_put test e xs p.1) ∙ or_swap (test x) (test e) (list_any test xs)
     ] p.0
 
-length_put : (e : LineValues) (xs : List LineValues) → list_any (have_one_key e) xs ≡ false → length (insert_key line_cmp xs e) ≡ suc (length xs)
+pub length_put : (e : LineValues) (xs : List LineValues) → list_any (have_one_key e) xs ≡ false → length (insert_key line_cmp xs e) ≡ suc (length xs)
 length_put e [] none = refl
 length_put e (x ∷ xs) none =
     let p = or_parts (have_one_key e x) (list_any (have_one_key e) xs) none in

@@ -73,18 +73,28 @@ ending_cmp a b =
     (ordering_then (bool_cmp a.forever b.forever)
     (ordering_then (int_cmp a.micros b.micros) (parts_cmp a.key b.key)))))
 
+-- some end of a set passes a test
+abbrev pub has_end : BTreeSet Ending → (EndingParts → Bool) → Bool
+has_end ends test = list_any (λ q. test (parts_of_ending q)) ends.keys
+
+-- a test passes some end exactly where it passes that of a line that lies in a container
+abbrev pub AreEndsOf : ((EndingParts → Bool) → Bool) → List LineValues → Type 0
+AreEndsOf passes lines = (test : EndingParts → Bool) → passes test ≡ list_any (λ e. is_child e && test (ending_of e)) lines
+
 -- the set holds the ends of those lines that lie in containers, and no others
 abbrev pub HoldsEnds : BTreeSet Ending → List LineValues → Type 0
 HoldsEnds ends lines =
     (test : EndingParts → Bool) → list_any (λ q. test (parts_of_ending q)) ends.keys ≡ list_any (λ e. is_child e && test (ending_of e)) lines
 
--- the set holds one more end, or all others
-abbrev pub EndsWith : BTreeSet Ending → EndingParts → BTreeSet Ending → Type 0
-EndsWith ends e more = (test : EndingParts → Bool) → list_any (λ q. test (parts_of_ending q)) more.keys ≡ (test e || list_any (λ q. test (parts_of_ending q)) ends.keys)
+-- there is one end more, or all but one
+abbrev pub AddsEnd : ((EndingParts → Bool) → Bool) → EndingParts → ((EndingParts → Bool) → Bool) → Type 0
+AddsEnd passes e more = (test : EndingParts → Bool) → more test ≡ (test e || passes test)
 
-abbrev pub EndsWithout : BTreeSet Ending → EndingParts → BTreeSet Ending → Type 0
-EndsWithout ends e fewer =
-    (test : EndingParts → Bool) → list_any (λ q. test (parts_of_ending q)) fewer.keys ≡ list_any (λ q. not (is_eq (ending_cmp e (parts_of_ending q))) && test (parts_of_ending q)) ends.keys
+abbrev pub DropsEnd : ((EndingParts → Bool) → Bool) → EndingParts → ((EndingParts → Bool) → Bool) → Type 0
+DropsEnd passes e fewer = (test : EndingParts → Bool) → fewer test ≡ passes (λ q. not (is_eq (ending_cmp e q)) && test q)
+
+abbrev pub KeepsEnds : ((EndingParts → Bool) → Bool) → ((EndingParts → Bool) → Bool) → Type 0
+KeepsEnds passes same = (test : EndingParts → Bool) → same test ≡ passes test
 
 -- an end stands at a cut or after it, and before another
 abbrev pub is_between : EndingParts → EndingParts → EndingParts → Bool

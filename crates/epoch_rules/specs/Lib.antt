@@ -2,6 +2,7 @@ pub mod Catalog
 pub mod Codes
 pub mod Containers
 pub mod Endings
+pub mod EndsOver
 pub mod Indexes
 pub mod Kept
 pub mod KeyKinds
@@ -12,5 +13,6 @@ pub mod Losses
 pub mod MapLines
 pub mod Neighbours
 pub mod Outlines
+pub mod Overlays
 pub mod RuleNames
 pub mod Rules

@@ -1,15 +1,18 @@
 -- How the program holds the live lines while it checks others.
-use Rattle.std.specs.Prelude.{List}
+use Rattle.std.specs.Prelude.{◌≡◌, List, length, filter}
 use Rattle.epochs.specs.Lines.{LineValues}
 use Rattle.epoch_rules.specs.declared.outline.Outline.{Outline}
-use Rattle.epoch_rules.specs.Indexes.{IsCatalogIndex}
-use Rattle.epoch_rules.specs.MapLines.{lines_in, AreKeyed}
+use Rattle.epoch_rules.specs.Endings.{AreEndsOf}
+use Rattle.epoch_rules.specs.EndsOver.{has_end_over}
+use Rattle.epoch_rules.specs.Overlays.{overlaid, IsOverlay}
+use Rattle.epoch_rules.specs.Rules.{is_operator}
 
 -- the lines of an outline
 abbrev pub outlined : Outline → List LineValues
-outlined o = lines_in o.lines
+outlined o = overlaid o.lines
 
--- each line stands at its key, and the index is that of the lines
+-- the operators are counted, and the ends are those of the lines
 pub record IsOutline (o : Outline) : Type 0 where
-  pub keyed : AreKeyed o.lines
-  pub indexed : IsCatalogIndex o.index (outlined o)
+  pub laid : IsOverlay o.lines
+  pub counted : o.operators ≡ length (filter is_operator (outlined o))
+  pub ended : AreEndsOf (has_end_over o.ends o.index.now.ends) (outlined o)

@@ -13,7 +13,7 @@ use std::alloc::Global;
 
 /// Whether lines keep the rules over live lines, each with those before it taken. The first line that
 /// breaks a rule decides, by the first rule that it breaks; its number counts from 1. `index` is that of the
-/// live lines, so that these are walked once, whatever the number of lines.
+/// live lines. These are walked at most once, whatever the number of lines, and not at all where few come.
 pub fn check_lines(
     alloc: Global,
     live: &[Line],
@@ -27,7 +27,7 @@ pub fn check_lines(
     ensures exact { IsErrOf result CheckFault.OutOfMemory
         ⊎ (result ≡ check_answer (first_broken (map values_of_line live.now) (map values_of_line lines.now))) }
 {
-    let mut outline = Outline::of(alloc, live, index)?;
+    let mut outline = Outline::of(alloc, live, index, lines.len())?;
     'lines: for (place, line) in lines.iter().enumerate() {
         if let Some(rule) = outline.broken_rule(line) {
             return Err(CheckFault::Broken {

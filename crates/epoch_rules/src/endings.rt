@@ -1,9 +1,8 @@
 //! The ends of stations and channels, in order for each network and station.
-ghost use Rattle.std.specs.Prelude.{◌≡◌, true, false, OnOk, MatchOption};
-ghost use Rattle.std.specs.List.{list_any};
+ghost use Rattle.std.specs.Prelude.{◌≡◌, true, false, MatchOption};
 ghost use Rattle.epochs.specs.Views.{values_of_line};
 ghost use Rattle.epochs.specs.declared.line.Line.TheVariants as line;
-ghost use Rattle.epoch_rules.specs.Endings.{parts_of_child, ending, ending_of, parts_of_ending, is_child, cut, is_between, EndsWith, EndsWithout};
+ghost use Rattle.epoch_rules.specs.Endings.{parts_of_child, ending, ending_of, parts_of_ending, is_child, cut, is_between, has_end};
 ghost use Rattle.epoch_rules.specs.KeyKinds.{key_rank};
 ghost use Rattle.epoch_rules.specs.KeyOrder.{key_parts_of};
 
@@ -11,7 +10,6 @@ use crate::key_code::KeyCode;
 use crate::key_kind::KeyKind;
 use crate::spans::end;
 use epochs::{ChannelEpoch, Line, StationEpoch};
-use exact_time::OutOfMemory;
 use std::collections::BTreeSet;
 
 /// The key of a station or a channel, in the order of `specs/KeyOrder.antt`.
@@ -84,7 +82,7 @@ fn channel_key(cha: &ChannelEpoch) -> ChildKey
 }
 
 /// The end of a line that lies in a container.
-fn ending_of(line: &Line) -> Option<Ending>
+pub fn ending_of(line: &Line) -> Option<Ending>
     ensures { MatchOption result (is_child (values_of_line line.now) ≡ false) (λ e. (is_child (values_of_line line.now) ≡ true) × (parts_of_ending e ≡ ending_of (values_of_line line.now))) }
 {
     match line {
@@ -121,30 +119,9 @@ pub fn cut(kind: KeyKind, first: KeyCode, second: KeyCode, end: Option<i64>) -> 
     ending_in(kind, first, second, end, last)
 }
 
-/// Takes in the end of a line that lies in a container.
-pub fn keep_end(ends: &mut BTreeSet<Ending>, line: &Line) -> Result<(), OutOfMemory>
-    ensures child { OnOk result (is_child (values_of_line line.now) ≡ true → EndsWith ends.old (ending_of (values_of_line line.now)) ends.new) }
-    ensures other { OnOk result (is_child (values_of_line line.now) ≡ false → ends.new.keys ≡ ends.old.keys) }
-{
-    if let Some(ending) = ending_of(line) {
-        ends.insert(ending)?;
-    }
-    Ok(())
-}
-
-/// Takes out the end of a line that lies in a container.
-pub fn forget_end(ends: &mut BTreeSet<Ending>, line: &Line)
-    ensures child { is_child (values_of_line line.now) ≡ true → EndsWithout ends.old (ending_of (values_of_line line.now)) ends.new }
-    ensures other { is_child (values_of_line line.now) ≡ false → ends.new.keys ≡ ends.old.keys }
-{
-    if let Some(ending) = ending_of(line) {
-        ends.remove(&ending);
-    }
-}
-
 /// Whether an end stands at a cut or after it, and before another.
-pub fn has_between(ends: &BTreeSet<Ending>, low: Ending, high: Ending) -> bool
-    ensures { result ≡ list_any (λ q. is_between (parts_of_ending low) (parts_of_ending high) (parts_of_ending q)) ends.now.keys }
+pub fn has_between(ends: &BTreeSet<Ending>, low: &Ending, high: &Ending) -> bool
+    ensures { result ≡ has_end ends.now (is_between (parts_of_ending low.now) (parts_of_ending high.now)) }
 {
-    low.cmp(&high).is_lt() && ends.range(low..high).next().is_some()
+    low.cmp(high).is_lt() && ends.range(*low..*high).next().is_some()
 }

@@ -14,11 +14,10 @@ ghost use Rattle.epoch_rules.specs.Outlines.{outlined, IsOutline};
 ghost use Rattle.epoch_rules.specs.Rules.{has_rival, lacks_station, lacks_network, lacks_user, is_operator, is_rival, holds_channel, holds_station, deletes_nothing, most_lines, broken_rule, own_rule, common_rule, with_line};
 
 use crate::container::container_of;
-use crate::endings::{cut, has_between};
+use crate::endings::cut;
 use crate::key_code::KeyCode;
 use crate::key_kind::KeyKind;
 use crate::key_order::{KeyView, key_view};
-use crate::neighbours::{first_after, first_from, last_before, last_up_to, line_at};
 use crate::outline::Outline;
 use crate::relations::{
     count_operator, holds_channel, holds_station, is_channel, is_epoch, is_grant, is_rival,
@@ -177,8 +176,8 @@ impl<'a> Outline<'a> {
         is_epoch(line)
             && is_rival_among(
                 line,
-                last_before(&self.lines, key),
-                first_after(&self.lines, key),
+                self.lines.last_before(key),
+                self.lines.first_after(key),
             )
     }
 
@@ -188,7 +187,7 @@ impl<'a> Outline<'a> {
         requires catalog { IsCatalog (outlined self.now) }
         ensures { result ≡ lacks_station (outlined self.now) (values_of_line line.now) }
     {
-        is_channel(line) && !holds_channel_there(line, last_up_to(&self.lines, station_key(line)))
+        is_channel(line) && !holds_channel_there(line, self.lines.last_up_to(station_key(line)))
     }
 
     // Whether the line is a station's, and no live epoch of its network contains it.
@@ -197,7 +196,7 @@ impl<'a> Outline<'a> {
         requires catalog { IsCatalog (outlined self.now) }
         ensures { result ≡ lacks_network (outlined self.now) (values_of_line line.now) }
     {
-        is_station(line) && !holds_station_there(line, last_up_to(&self.lines, network_key(line)))
+        is_station(line) && !holds_station_there(line, self.lines.last_up_to(network_key(line)))
     }
 
     // Whether the line grants something to a user who isn't live.
@@ -206,7 +205,7 @@ impl<'a> Outline<'a> {
         requires catalog { IsCatalog (outlined self.now) }
         ensures { result ≡ lacks_user (outlined self.now) (values_of_line line.now) }
     {
-        is_grant(line) && !self.lines.contains_key(&user_key(line))
+        is_grant(line) && !self.lines.contains_key(user_key(line))
     }
 
     // Whether the line's key is live.
@@ -214,7 +213,7 @@ impl<'a> Outline<'a> {
         requires outline { IsOutline self.now }
         ensures { result ≡ list_any (have_one_key (values_of_line line.now)) (outlined self.now) }
     {
-        self.lines.contains_key(&key_view(line))
+        self.lines.contains_key(key_view(line))
     }
 
     // Whether the line deletes what isn't live.
@@ -252,7 +251,7 @@ impl<'a> Outline<'a> {
         requires catalog { IsCatalog (outlined self.now) }
         ensures { result ≡ (if list_any (λ l. have_one_key (values_of_line line.now) l && is_operator l) (outlined self.now) then 1 else 0) }
     {
-        count_operator_there(line_at(&self.lines, key_view(line)))
+        count_operator_there(self.lines.line_at(key_view(line)))
     }
 
     // Whether with the line no live user has the role operator.
@@ -261,7 +260,7 @@ impl<'a> Outline<'a> {
         requires catalog { IsCatalog (outlined self.now) }
         ensures { result ≡ not (list_any is_operator (with_line (outlined self.now) (values_of_line line.now))) }
     {
-        let others = self.index.operators - self.operators_replaced(line);
+        let others = self.operators - self.operators_replaced(line);
         others == 0 && count_operator(line) == 0
     }
 
@@ -282,12 +281,12 @@ impl<'a> Outline<'a> {
         requires catalog { IsCatalog (outlined self.now) }
         ensures { result ≡ list_any (λ x. is_child x && is_cut_in (key_rank kind) first second (outlined self.now) (values_of_line line.now) x) (outlined self.now) }
     {
-        let Some(old) = line_at(&self.lines, key_view(line)) else {
+        let Some(old) = self.lines.line_at(key_view(line)) else {
             return false;
         };
         let low = cut(kind, first, second, new_end(line));
         let high = cut(kind, first, second, end(old));
-        has_between(&self.index.ends, low, high)
+        self.ends.has_between(&self.index.ends, &low, &high)
     }
 
     // Whether a user has a live grant.
@@ -296,7 +295,7 @@ impl<'a> Outline<'a> {
         requires catalog { IsCatalog (outlined self.now) }
         ensures { result ≡ list_any (is_grant_of user.now) (outlined self.now) }
     {
-        is_grant_there(user, first_from(&self.lines, grants_key(user)))
+        is_grant_there(user, self.lines.first_from(grants_key(user)))
     }
 
     // Whether the line deletes a user who has a live grant.

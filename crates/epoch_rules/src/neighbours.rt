@@ -4,7 +4,7 @@ ghost use Rattle.std.specs.List.Sorted.{IsStrictlySortedBy};
 ghost use Rattle.epochs.specs.Views.{values_of_line};
 ghost use Rattle.epoch_rules.specs.KeyOrder.{line_cmp};
 ghost use Rattle.epoch_rules.specs.KeyViews.{parts_of_view};
-ghost use Rattle.epoch_rules.specs.Neighbours.{is_at_key, is_below_key, is_up_to_key, is_above_key, is_from_key, IsLastOf, IsFirstOf};
+ghost use Rattle.epoch_rules.specs.Neighbours.{is_below_key, is_up_to_key, is_above_key, is_from_key, IsLastOf, IsFirstOf};
 ghost use Rattle.epoch_rules.specs.MapLines.{lines_in, AreKeyed};
 
 use crate::key_order::{KeyView, key_view};
@@ -28,14 +28,6 @@ pub fn lines_by_key<'a>(alloc: Global, lines: &'a [Line]) -> Result<LinesByKey<'
         .map(|line| (key_view(line), line))
         .collect(alloc)?;
     Ok(by_key)
-}
-
-/// The line of a key.
-pub fn line_at<'a>(lines: &LinesByKey<'a>, key: KeyView<'a>) -> Option<&'a Line>
-    requires { AreKeyed lines.now }
-    ensures { IsFirstOf (filter (is_at_key (parts_of_view key.entry)) (lines_in lines.now)) result }
-{
-    lines.get(&key).copied()
 }
 
 /// The last line before a key.

@@ -3,7 +3,7 @@ use Rattle.std.specs.List.Sorted.{IsPartitionedBy, IsPartitionPoint}
 use Rattle.std.proofs.lemmas.List.Sorted.{IsPartitionPoint-from_clause}
 use Rattle.epochs.specs.declared.line.Line.{Line}
 use Rattle.epoch_catalog.specs.declared.families.Family.{Family}
-use Rattle.epoch_catalog.proofs.Cuts.{whole_rest}
+use Rattle.epoch_rules.proofs.Cuts.{whole_rest}
 use Rattle.epoch_catalog.proofs.FamilyCuts.{is_before, is_not_behind, first_parted, rest_parted, family_cut}
 use Rattle.epoch_catalog.proofs.families.family_bounds.Goals as goal
 

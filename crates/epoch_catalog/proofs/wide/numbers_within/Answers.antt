@@ -2,7 +2,7 @@ use Rattle.std.proofs.Common.{rules, of_calls, ◌≡◌, ℕ, ◌≤◌, ◌-�
 use Rattle.std.specs.Prelude.{nat_le, nat_lt}
 use Rattle.std.specs.List.Sorted.{IsPartitionedBy, IsPartitionPoint}
 use Rattle.std.proofs.lemmas.List.Sorted.{IsPartitionPoint-from_clause}
-use Rattle.epoch_catalog.proofs.Cuts.{cut_between, whole_rest}
+use Rattle.epoch_rules.proofs.Cuts.{cut_between, whole_rest}
 use Rattle.epoch_catalog.proofs.WidePlaces.{numbers_placed, parted_behind}
 use Rattle.epoch_catalog.proofs.wide.numbers_within.Goals as goal
 

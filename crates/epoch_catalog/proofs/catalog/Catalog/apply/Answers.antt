@@ -13,16 +13,25 @@ pub invariant_of-self-2 : goal.invariant_of-self-2
 invariant_of-self-2 c =
     let live : List LineValues = map values_of_line c.self.inside.lines.items in
     let lines : List LineValues = map values_of_line c.args.lines.now in
-    let index = c.in_ok-index.index in
+    let heads : List LineValues = map values_of_line c.in_ok-heads.heads.items in
+    let index = c.take_in.new.self in
+    let held = c.in_ok-reserve.ensures.items in
+    let given = c.as_slice-2.ensures.value ∙ held in
     let kept : AreKept live lines = subst (λ l. AreKept l lines) (sym c.self.view_is) c.requires in
-    let new : map values_of_line c.merge.new.live.items ≡ live_lines (live ++ lines) = c.in_ok-merge.ensures.ok ∙ ap (λ ls. live_lines (live ++ map values_of_line ls)) c.as_slice-3.ensures in
-    let indexed : IsCatalogIndex index (live_lines (live ++ lines)) = subst (IsCatalogIndex index) (λ i. live_lines (map values_of_line (c.as_slice.ensures.value i) ++ map values_of_line (c.as_slice-2.ensures i))) c.in_ok-index.ensures in
+    let new : map values_of_line c.merge.new.live.items ≡ live_lines (live ++ lines) =
+    c.merge.ensures.lines ∙ ap (λ ls. live_lines (map values_of_line ls ++ heads)) held ∙ c.in_ok-heads.ensures.lines live ∙ ap (λ ls. live_lines (live ++ map values_of_line ls)) c.as_slice.ensures in
+    let indexed : IsCatalogIndex index (live_lines (live ++ lines)) = subst (IsCatalogIndex index) (λ i. live_lines (map values_of_line (given i) ++ map values_of_line (c.as_slice-3.ensures i))) c.in_ok-take_in.ensures.ok in
     (subst IsCatalog (sym new) (kept_lines live lines c.self.invariant.0 kept), c.note_wide.ensures ∙ ap (λ ls. wide_places (map values_of_line ls)) c.as_slice-4.ensures.value, subst (IsCatalogIndex index) (sym new) indexed)
 
 pub returns-clause-kept : goal.returns-clause-kept
 returns-clause-kept c =
     let live : List LineValues = map values_of_line c.self.inside.lines.items in
     let lines : List LineValues = map values_of_line c.args.lines.now in
+    let heads : List LineValues = map values_of_line c.in_ok-heads.heads.items in
     let kept : AreKept live lines = subst (λ l. AreKept l lines) (sym c.self.view_is) c.requires in
-    let new : map values_of_line c.merge.new.live.items ≡ live_lines (live ++ lines) = c.in_ok-merge.ensures.ok ∙ ap (λ ls. live_lines (live ++ map values_of_line ls)) c.as_slice-3.ensures in
+    let new : map values_of_line c.merge.new.live.items ≡ live_lines (live ++ lines) =
+    c.merge.ensures.lines
+    ∙ ap (λ ls. live_lines (map values_of_line ls ++ heads)) c.in_ok-reserve.ensures.items
+    ∙ c.in_ok-heads.ensures.lines live
+    ∙ ap (λ ls. live_lines (live ++ map values_of_line ls)) c.as_slice.ensures in
     subst IsCatalog (sym new) (kept_lines live lines c.self.invariant.0 kept)

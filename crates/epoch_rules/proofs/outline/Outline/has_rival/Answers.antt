@@ -6,7 +6,8 @@ use Rattle.epoch_rules.specs.Outlines.{outlined}
 use Rattle.epoch_rules.specs.Rules.{is_rival}
 use Rattle.epoch_rules.proofs.FamilyKeys.{epoch_says}
 use Rattle.epoch_rules.proofs.NearRivals.{near_rivals}
-use Rattle.epoch_rules.proofs.Tidy.{tidy, all_tidy}
+use Rattle.epoch_rules.proofs.Tidy.{tidy}
+use Rattle.epoch_rules.proofs.OverlaySteps.{laid_tidy}
 use Rattle.epoch_rules.proofs.outline.Outline.has_rival.Goals as goal
 
 pub returns-then-is_epoch : goal.returns-then-is_epoch
@@ -17,5 +18,5 @@ returns-then-is_epoch c =
     let last = subst (λ k. IsLastOf (filter (is_below_key k) live) c.last_before.result) c.key_view-key.ensures c.last_before.ensures in
     let first = subst (λ k. IsFirstOf (filter (is_above_key k) live) c.first_after.result) c.key_view-key.ensures c.first_after.ensures in
     c.is_rival_among.ensures
-    ∙ near_rivals live c.requires.catalog (all_tidy c.args.self.now.lines.entries) e (tidy c.args.line.now) epoch (epoch_says e epoch) c.last_before.result c.first_after.result last first
+    ∙ near_rivals live c.requires.catalog (laid_tidy c.args.self.now.lines) e (tidy c.args.line.now) epoch (epoch_says e epoch) c.last_before.result c.first_after.result last first
     ∙ sym (ap (λ b. b && list_any (is_rival e) live) epoch)

@@ -5,7 +5,8 @@ use Rattle.epoch_rules.specs.Neighbours.{is_up_to_key, IsLastOf}
 use Rattle.epoch_rules.specs.Outlines.{outlined}
 use Rattle.epoch_rules.specs.Rules.{holds_channel}
 use Rattle.epoch_rules.proofs.Containers.{near_station}
-use Rattle.epoch_rules.proofs.Tidy.{tidy, all_tidy}
+use Rattle.epoch_rules.proofs.Tidy.{tidy}
+use Rattle.epoch_rules.proofs.OverlaySteps.{laid_tidy}
 use Rattle.epoch_rules.proofs.outline.Outline.lacks_station.Goals as goal
 
 pub returns-then-is_channel : goal.returns-then-is_channel
@@ -16,5 +17,5 @@ returns-then-is_channel c =
     let last = subst (λ k. IsLastOf (filter (is_up_to_key k) live) c.last_up_to.result) c.station_key.ensures c.last_up_to.ensures in
     ap not
     (c.holds_channel_there.ensures
-    ∙ near_station live c.requires.catalog (all_tidy c.args.self.now.lines.entries) e (tidy c.args.line.now) channel c.last_up_to.result last)
+    ∙ near_station live c.requires.catalog (laid_tidy c.args.self.now.lines) e (tidy c.args.line.now) channel c.last_up_to.result last)
     ∙ sym (ap (λ b. b && not (list_any (holds_channel e) live)) channel)

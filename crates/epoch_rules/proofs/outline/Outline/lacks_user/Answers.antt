@@ -1,12 +1,12 @@
-use Rattle.std.proofs.Common.{◌∙◌, not, ◌&&◌, refl, sym, ap}
+use Rattle.std.proofs.Common.{◌∙◌, not, ◌&&◌, sym, ap}
 use Rattle.std.specs.List.{list_any}
 use Rattle.epochs.specs.Views.{values_of_line}
 use Rattle.epoch_rules.specs.Neighbours.{is_at_key}
 use Rattle.epoch_rules.specs.Outlines.{outlined}
 use Rattle.epoch_rules.specs.Rules.{is_grantee}
 use Rattle.epoch_rules.proofs.Containers.{user_there}
-use Rattle.epoch_rules.proofs.LinesOfMap.{found_key}
-use Rattle.epoch_rules.proofs.Tidy.{tidy, all_tidy}
+use Rattle.epoch_rules.proofs.Tidy.{tidy}
+use Rattle.epoch_rules.proofs.OverlaySteps.{laid_tidy}
 use Rattle.epoch_rules.proofs.outline.Outline.lacks_user.Goals as goal
 
 pub returns-then-is_grant : goal.returns-then-is_grant
@@ -16,7 +16,6 @@ returns-then-is_grant c =
     let grant = sym c.is_grant.ensures ∙ c.if-is_grant.true in
     ap not
     (c.contains_key.ensures
-    ∙ found_key _ (λ a b. refl) c.args.self.now.lines.entries c.user_key.result c.requires.outline.keyed
     ∙ ap (λ k. list_any (is_at_key k) live) c.user_key.ensures
-    ∙ user_there live c.requires.catalog (all_tidy c.args.self.now.lines.entries) e (tidy c.args.line.now))
+    ∙ user_there live c.requires.catalog (laid_tidy c.args.self.now.lines) e (tidy c.args.line.now))
     ∙ sym (ap (λ b. b && not (list_any (is_grantee e) live)) grant)

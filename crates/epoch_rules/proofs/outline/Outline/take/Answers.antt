@@ -11,15 +11,15 @@ use Rattle.epoch_rules.proofs.outline.Outline.take.Goals as goal
 
 pub put-requires-clause-absent : goal.put-requires-clause-absent
 put-requires-clause-absent c =
-    ap (list_any (have_one_key (values_of_line c.args.line.now))) c.remove.ensures.lines ∙ none_other (values_of_line c.args.line.now) (outlined c.args.self.now)
+    ap (list_any (have_one_key (values_of_line c.args.line.now))) c.in_ok-remove.ensures.lines ∙ none_other (values_of_line c.args.line.now) (outlined c.args.self.now)
 
 pub returns-then-is_said-clause-lines : goal.returns-then-is_said-clause-lines
 returns-then-is_said-clause-lines c =
     let e = values_of_line c.args.line.now in
     let live = outlined c.args.self.now in
-    let after = ap (λ l. insert_key line_cmp l e) c.remove.ensures.lines ∙ sym (taken live e true c.requires.catalog.rises c.requires.catalog.states (sym c.is_said.ensures ∙ c.if-is_said.true)) in
+    let after = ap (λ l. insert_key line_cmp l e) c.in_ok-remove.ensures.lines ∙ sym (taken live e true c.requires.catalog.rises c.requires.catalog.states (sym c.is_said.ensures ∙ c.if-is_said.true)) in
     subst (λ (l : List LineValues). OnOk c.put.result (outlined c.put.new.self ≡ l)) after c.put.ensures.lines
 
 pub returns-clause-lines : goal.returns-clause-lines
 returns-clause-lines c =
-    c.remove.ensures.lines ∙ sym (taken (outlined c.args.self.now) (values_of_line c.args.line.now) false c.requires.catalog.rises c.requires.catalog.states (sym c.is_said.ensures ∙ c.if-is_said.false))
+    c.in_ok-remove.ensures.lines ∙ sym (taken (outlined c.args.self.now) (values_of_line c.args.line.now) false c.requires.catalog.rises c.requires.catalog.states (sym c.is_said.ensures ∙ c.if-is_said.false))

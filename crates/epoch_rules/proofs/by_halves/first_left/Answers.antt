@@ -1,0 +1,24 @@
+use Rattle.std.proofs.Common.{◌∙◌, not, cond, ◌∷◌, map, sym, ap, arith}
+use Rattle.epochs.specs.Views.{values_of_line}
+use Rattle.epoch_rules.specs.Overlays.{left_of}
+use Rattle.epoch_rules.proofs.OverlaySteps.{contained, left_first}
+use Rattle.epoch_rules.proofs.by_halves.first_left.Goals as goal
+
+pub lines-preserved : goal.lines-preserved
+lines-preserved c =
+    let gone = c.args.gone.now in
+    let e = values_of_line c.in-Some.line.now in
+    let behind = left_of gone (map values_of_line c.in-Some.behind.now) in
+    let among = sym (contained gone c.contains.result c.key_view.result e c.contains.ensures c.key_view.ensures) ∙ c.if-not-contains.false in
+    sym (left_first gone c.lines.rest.now c.in-Some.behind.now c.in-Some.line.now c.in-Some.ensures.cases.0 ∙ ap (λ b. cond (not b) (e ∷ behind) behind) among) ∙ c.lines.invariant
+
+pub lines-smaller : goal.lines-smaller
+lines-smaller c = omega (arith, c.in-Some.ensures.cases.1)
+
+pub returns-then-not-contains : goal.returns-then-not-contains
+returns-then-not-contains c =
+    let gone = c.args.gone.now in
+    let e = values_of_line c.in-Some.line.now in
+    let behind = left_of gone (map values_of_line c.in-Some.behind.now) in
+    let among = sym (contained gone c.contains.result c.key_view.result e c.contains.ensures c.key_view.ensures) ∙ c.if-not-contains.true in
+    (behind, sym c.lines.invariant ∙ left_first gone c.lines.rest.now c.in-Some.behind.now c.in-Some.line.now c.in-Some.ensures.cases.0 ∙ ap (λ b. cond (not b) (e ∷ behind) behind) among)
