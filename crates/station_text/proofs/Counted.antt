@@ -15,7 +15,7 @@ use Rattle.list_laws.specs.InOrder.{in_order}
 use Rattle.list_laws.proofs.Keys.{sorted_in_order, any_in_order}
 use Rattle.epochs.specs.declared.kinds.LineKind.TheVariants.{Sta}
 use Rattle.epochs.specs.Lines.{LineValues}
-use Rattle.epoch_catalog.proofs.FamilyCuts.{Rises}
+use Rattle.epoch_rules.proofs.Halves.{Rises}
 use Rattle.epoch_catalog.proofs.FamilyPlaces.{same_text}
 use Rattle.epoch_catalog.specs.Families.{is_in}
 use Rattle.epoch_catalog.specs.declared.families.Family.TheVariants.{StationsOf}

@@ -20,8 +20,8 @@ use Rattle.epochs.specs.declared.line.Line.{Line}
 use Rattle.epochs.specs.Lines.{LineValues}
 use Rattle.epochs.specs.Views.{values_of_line}
 use Rattle.epoch_catalog.specs.declared.families.Family.TheVariants as family
-use Rattle.epoch_catalog.proofs.Cuts.{IsPlaced, filter_mapped, cut_between}
-use Rattle.epoch_catalog.proofs.FamilyCuts.{parted}
+use Rattle.epoch_rules.proofs.Cuts.{IsPlaced, filter_mapped, cut_between}
+use Rattle.epoch_rules.proofs.Halves.{parted}
 use Rattle.epoch_catalog.proofs.FamilyPlaces.{front_total, front_rises, with_front, same_rank, same_text, both_eq}
 use Rattle.epoch_rules.specs.KeyOrder.{KeyParts, key_parts_of, parts_cmp, line_cmp, text_cmp}
 use Rattle.epoch_rules.specs.Rules.{is_line_of}

@@ -9,8 +9,8 @@ use Rattle.std.proofs.lemmas.Bool.{true≢false}
 use Rattle.epochs.specs.declared.line.Line.{Line}
 use Rattle.epochs.specs.Views.{values_of_line}
 use Rattle.epoch_rules.specs.KeyOrder.{key_parts_of, line_cmp}
-use Rattle.epoch_catalog.proofs.Cuts.{IsPlaced, all_mapped, filter_mapped, cut_between}
-use Rattle.epoch_catalog.proofs.FamilyCuts.{Rises, parted}
+use Rattle.epoch_rules.proofs.Cuts.{IsPlaced, all_mapped, filter_mapped, cut_between}
+use Rattle.epoch_rules.proofs.Halves.{Rises, parted}
 use Rattle.station_text.specs.Found.{place_order, stands_at}
 use Rattle.station_text.specs.declared.place.Place.{Place}
 use Rattle.station_text.proofs.Places.{before_stays, within_stays}

@@ -20,8 +20,8 @@ use Rattle.epochs.specs.Lines.{LineValues}
 use Rattle.epoch_rules.specs.Catalog.{IsCatalog}
 use Rattle.epoch_rules.specs.KeyOrder.{KeyParts, key_parts_of, line_cmp}
 use Rattle.epoch_rules.specs.Rules.{is_line_of}
-use Rattle.epoch_catalog.proofs.Cuts.{filter_none, filter_joined}
-use Rattle.epoch_catalog.proofs.FamilyCuts.{Rises}
+use Rattle.epoch_rules.proofs.Cuts.{filter_none, filter_joined}
+use Rattle.epoch_rules.proofs.Halves.{Rises}
 use Rattle.station_text.specs.Asked.{is_line_asked, is_asked_at, asked_lines, names_network, names_station, names_channel, matches_channel, has_channel, is_eligible, selects_station, selects_channel}
 use Rattle.station_text.specs.Windows.{line_meets}
 use Rattle.station_text.specs.Found.{level_rank, is_of_stations, both_codes, place_of, is_given, has_place, place_cmp, stands_at, asked_at}

@@ -7,8 +7,8 @@ use Rattle.std.specs.List.Sorted.{IsStrictlySortedBy, IsPartitionedBy, IsPartiti
 use Rattle.epochs.specs.declared.line.Line.{Line}
 use Rattle.epochs.specs.Views.{values_of_line}
 use Rattle.epoch_rules.specs.KeyOrder.{key_parts_of, line_cmp}
-use Rattle.epoch_catalog.proofs.Cuts.{IsPlaced, filter_mapped, cut_between}
-use Rattle.epoch_catalog.proofs.FamilyCuts.{parted}
+use Rattle.epoch_rules.proofs.Cuts.{IsPlaced, filter_mapped, cut_between}
+use Rattle.epoch_rules.proofs.Halves.{parted}
 use Rattle.station_text.specs.Sections.{section_order, stands_in}
 use Rattle.station_text.specs.declared.sections.Section.{Section}
 use Rattle.station_text.proofs.PlaceCuts.{IsLess, rises_mapped, rises_dropped, lt_apart, gt_apart, between}

@@ -3,7 +3,7 @@ use Rattle.std.specs.List.Sorted.{IsPartitionedBy, IsPartitionPoint}
 use Rattle.std.proofs.lemmas.List.Sorted.{IsPartitionPoint-from_clause}
 use Rattle.epochs.specs.declared.line.Line.{Line}
 use Rattle.epochs.specs.Views.{values_of_line}
-use Rattle.epoch_catalog.proofs.Cuts.{whole_rest}
+use Rattle.epoch_rules.proofs.Cuts.{whole_rest}
 use Rattle.station_text.specs.Found.{level_rank}
 use Rattle.station_text.proofs.NetworkCuts.{is_before, is_not_behind, first_parted, rest_parted, network_cut}
 use Rattle.station_text.proofs.sections.lines_on.Goals as goal
