@@ -5,5 +5,6 @@ pub mod Heads
 pub mod LiveMembers
 pub mod Merged
 pub mod OneUser
+pub mod Placed
 pub mod UsersFound
 pub mod WidePlaces

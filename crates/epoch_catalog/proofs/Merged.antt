@@ -23,7 +23,7 @@ use Rattle.epoch_rules.proofs.WithLine.{no_other_gone, with_line_is}
 use Rattle.epoch_catalog.specs.Merging.{last_place, AreMoved, AreBefore}
 use Rattle.epoch_catalog.proofs.Heads.{heads_last}
 
-all_fronts : (P : LineValues → Type 0) (xs ys : List LineValues) → AllByRecursion P (xs ++ ys) → AllByRecursion P xs
+pub all_fronts : (P : LineValues → Type 0) (xs ys : List LineValues) → AllByRecursion P (xs ++ ys) → AllByRecursion P xs
 all_fronts P [] ys all = tt
 all_fronts P (x ∷ xs) ys all = (all.0, all_fronts P xs ys all.1)
 
@@ -35,10 +35,14 @@ all_both : (P : LineValues → Type 0) (xs ys : List LineValues) → AllByRecurs
 all_both P [] ys all more = more
 all_both P (x ∷ xs) ys all more = (all.0, all_both P xs ys all.1 more)
 
-sorted_front : (xs ys : List LineValues) → IsStrictlySortedBy line_cmp (xs ++ ys) → IsStrictlySortedBy line_cmp xs
+pub sorted_front : (xs ys : List LineValues) → IsStrictlySortedBy line_cmp (xs ++ ys) → IsStrictlySortedBy line_cmp xs
 unfolding IsStrictlySortedBy
 sorted_front [] ys up = tt
 sorted_front (x ∷ xs) ys up = (all_fronts (λ y. line_cmp x y ≡ Less) xs ys up.0, sorted_front xs ys up.1)
+
+pub sorted_back : (xs ys : List LineValues) → IsStrictlySortedBy line_cmp (xs ++ ys) → IsStrictlySortedBy line_cmp ys
+sorted_back [] ys up = up
+sorted_back (x ∷ xs) ys up = sorted_back xs ys (sorted_tail line_cmp x (xs ++ ys) up)
 
 all_lower : (e top : LineValues) (xs : List LineValues) → line_cmp e top ≡ Less → AllByRecursion (λ x. line_cmp x e ≡ Less) xs → AllByRecursion (λ x. line_cmp x top ≡ Less) xs
 all_lower e top [] less all = tt
@@ -169,7 +173,7 @@ pub record AreMerging (whole live heads behind : List LineValues) : Type 0 where
   pub heads_rise : IsStrictlySortedBy line_cmp heads
 
 -- the live lines where the greater ones have moved and those of the head's key are dropped
-one_head : (live heads : List LineValues) (head : LineValues) (more gone rest : List LineValues) → live ≡ (rest ++ gone) ++ more → IsStrictlySortedBy line_cmp live → AllByRecursion (λ l. is_said l ≡ true) live
+pub one_head : (live heads : List LineValues) (head : LineValues) (more gone rest : List LineValues) → live ≡ (rest ++ gone) ++ more → IsStrictlySortedBy line_cmp live → AllByRecursion (λ l. is_said l ≡ true) live
     → IsStrictlySortedBy line_cmp (heads ++ head ∷ []) → AllByRecursion (λ l. line_cmp l head ≡ Greater) more → AllByRecursion (λ l. line_cmp l head ≡ Equal) gone → AllByRecursion (λ l. line_cmp l head ≡ Less) rest
     → live_lines (live ++ (heads ++ head ∷ [])) ≡ (live_lines (rest ++ heads) ++ (if is_said head then head ∷ [] else [])) ++ more
 one_head live heads head more gone rest is up said heads_up above same below =

@@ -1,13 +1,13 @@
 -- The last new lines of their keys, found from the last line to the first; and how live lines and these are
 -- merged, from the last key to the first.
-use Rattle.std.specs.Prelude.{◌≡◌, List, [], ◌∷◌, ◌++◌, reverse}
+use Rattle.std.specs.Prelude.{◌≡◌, Bool, false, List, [], ◌∷◌, ◌++◌, reverse}
 use Rattle.std.specs.List.{AllByRecursion}
 use Rattle.std.specs.declared.cmp.Ordering.{Ordering}
 use Rattle.std.specs.declared.cmp.Ordering.TheVariants.{Less, Equal, Greater}
 use Rattle.std.specs.BTreeSet.{BTreeSet}
 use Rattle.epochs.specs.Lines.{LineValues}
 use Rattle.epoch_rules.specs.declared.key_order.KeyView.{KeyView}
-use Rattle.epoch_rules.specs.KeyOrder.{line_cmp}
+use Rattle.epoch_rules.specs.KeyOrder.{line_cmp, have_one_key}
 use Rattle.epoch_rules.specs.Overlays.{has_key}
 use Rattle.epoch_rules.specs.LiveLines.{is_replaced, last_lines}
 
@@ -35,3 +35,8 @@ pub record AreBefore (head : LineValues) (lines kept : List LineValues) : Type 0
   pub split : lines ≡ kept ++ dropped
   pub same : AllByRecursion (λ l. line_cmp l head ≡ Equal) dropped
   pub below : AllByRecursion (λ l. line_cmp l head ≡ Less) kept
+
+-- the first line has a head's key
+abbrev pub is_first : List LineValues → LineValues → Bool
+is_first [] head = false
+is_first (l ∷ live) head = have_one_key head l

@@ -29,6 +29,7 @@ mod copying;
 mod families;
 mod law;
 mod merging;
+mod placing;
 mod users;
 mod wide;
 

@@ -12,6 +12,7 @@ ghost use Rattle.epoch_rules.specs.Overlays.{has_key};
 ghost use Rattle.epoch_catalog.specs.Merging.{last_place, AreMoved, AreBefore};
 
 use crate::copying::copy_line;
+use crate::placing::put_all;
 use epoch_rules::{KeyView, cmp_keys, is_said, key_view};
 use epochs::Line;
 use exact_time::OutOfMemory;
@@ -155,6 +156,10 @@ pub fn heads_of(alloc: Global, lines: &[Line]) -> Result<Vec<Line>, OutOfMemory>
     Ok(copies)
 }
 
+// How many heads are put in one by one, each of which moves the lines behind it at most once. More are merged in a walk
+// that moves all lines behind the first of them.
+const FEW: usize = 4;
+
 /// Makes live lines those after some heads, which are in the order of keys, and for which there is room, behind
 /// other lines too. Takes no memory.
 pub fn merge(live: &mut Vec<Line>, heads: &mut Vec<Line>, behind: &mut Vec<Line>)
@@ -166,6 +171,10 @@ pub fn merge(live: &mut Vec<Line>, heads: &mut Vec<Line>, behind: &mut Vec<Line>
     ensures lines { map values_of_line live.new.items ≡ live_lines (map values_of_line live.old.items ++ map values_of_line heads.old.items) }
     ensures few { length live.new.items ≤ length live.old.items + length heads.old.items }
 {
-    merge_heads(live, heads, behind);
-    put_behind(live, behind);
+    if heads.len() <= FEW {
+        put_all(live, heads);
+    } else {
+        merge_heads(live, heads, behind);
+        put_behind(live, behind);
+    }
 }

@@ -41,6 +41,7 @@ mod relations;
 mod rule;
 mod spans;
 
+pub use by_halves::count_below;
 pub use check::check_lines;
 pub use check_law::lines_are_kept_or_one_is_the_first_broken;
 pub use index::Index;

@@ -5,6 +5,7 @@ pub mod Examples
 pub mod Grouped
 pub mod Inside
 pub mod Levels
+pub mod Near
 pub mod NetworkCuts
 pub mod PlaceCuts
 pub mod PlaceOrder

@@ -80,6 +80,9 @@ fn place_order(level: Level, place: &Place, line: &Line) -> Ordering
     }
 }
 
+// A station mostly has fewer lines of a level, so that its last is looked for among these first.
+const NEAR: usize = 8;
+
 /// The lines of a station among those of a catalog, found by halves.
 pub fn lines_at<'a>(lines: &'a [Line], level: Level, place: &Place) -> &'a [Line]
     requires { IsCatalog (map values_of_line lines.now) }
@@ -87,6 +90,11 @@ pub fn lines_at<'a>(lines: &'a [Line], level: Level, place: &Place) -> &'a [Line
 {
     let first = lines.partition_point(|line| place_order(level, place, line).is_lt());
     let rest = &lines[first..];
+    let near = &rest[..rest.len().min(NEAR)];
+    let few = near.partition_point(|line| place_order(level, place, line).is_le());
+    if few < near.len() {
+        return &near[..few];
+    }
     let count = rest.partition_point(|line| place_order(level, place, line).is_le());
     &rest[..count]
 }

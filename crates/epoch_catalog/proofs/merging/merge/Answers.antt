@@ -5,8 +5,8 @@ use Rattle.epochs.specs.declared.line.Line.{Line}
 use Rattle.epoch_catalog.proofs.Merged.{map_reversed}
 use Rattle.epoch_catalog.proofs.merging.merge.Goals as goal
 
-pub returns-clause-lines : goal.returns-clause-lines
-returns-clause-lines c =
+pub returns-else-len-le-FEW-clause-lines : goal.returns-else-len-le-FEW-clause-lines
+returns-else-len-le-FEW-clause-lines c =
     let kept : List Line = c.merge_heads.new.live.items in
     let behind : List Line = c.merge_heads.new.behind.items in
     ap (map values_of_line) c.put_behind.ensures
@@ -14,8 +14,8 @@ returns-clause-lines c =
     ∙ ap (λ ls. map values_of_line kept ++ ls) (map_reversed values_of_line behind)
     ∙ c.merge_heads.ensures.lines
 
-pub returns-clause-few : goal.returns-clause-few
-returns-clause-few c =
+pub returns-else-len-le-FEW-clause-few : goal.returns-else-len-le-FEW-clause-few
+returns-else-len-le-FEW-clause-few c =
     let kept : List Line = c.merge_heads.new.live.items in
     let behind : List Line = c.merge_heads.new.behind.items in
     let put = ap length c.put_behind.ensures ∙ length-append kept (reverse behind) in
