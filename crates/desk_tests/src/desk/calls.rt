@@ -67,7 +67,7 @@ impl Desk for CountingDesk {
         self.desk.stops()
     }
 
-    ghost lawful = { λ c. ⟦<OwnedDesk<MemoryDisk> as Desk>⟧.lawful c.desk };
+    ghost lawful = { λ c. c.desk.lawful };
 }
 
 // Whether a request has a reply of this status, and the desk then so many calls behind it.
@@ -104,18 +104,24 @@ const QUERY: &str = "GET /fdsnws/dataselect/1/query?net=IU";
 fn a_query_asks_once(rt: HostRuntime) -> Result<(), Fail> {
     let alloc = rt.alloc();
     let mut desk = counting(&rt, alloc)?;
-    let version = plain(alloc, "GET /fdsnws/dataselect/1/version", "")?;
-    let nothing = plain(alloc, "GET /nothing", "")?;
     let query = plain(alloc, QUERY, "")?;
     let wrong = plain(alloc, "GET /fdsnws/dataselect/1/query?foo=1", "")?;
-    let reached = plain(alloc, QUERY, "X-Archive-Front: 3\r\n")?;
     let behind = plain(alloc, QUERY, "X-Archive-Front: 9\r\n")?;
-    assert!(rt; is_told(&rt, alloc, &mut desk, &version, 200, (0, 0, 0))?);
-    assert!(rt; is_told(&rt, alloc, &mut desk, &nothing, 404, (0, 0, 0))?);
     assert!(rt; is_told(&rt, alloc, &mut desk, &query, 200, (1, 0, 0))?);
     assert!(rt; is_told(&rt, alloc, &mut desk, &wrong, 400, (2, 0, 0))?);
-    assert!(rt; is_told(&rt, alloc, &mut desk, &reached, 200, (3, 0, 0))?);
-    assert!(rt; is_told(&rt, alloc, &mut desk, &behind, 400, (4, 0, 1))?);
+    assert!(rt; is_told(&rt, alloc, &mut desk, &behind, 400, (3, 0, 1))?);
+    Ok(())
+}
+
+// Neither a version nor a path that there isn't asks anything.
+#[test]
+fn some_replies_ask_nothing(rt: HostRuntime) -> Result<(), Fail> {
+    let alloc = rt.alloc();
+    let mut desk = counting(&rt, alloc)?;
+    let version = plain(alloc, "GET /fdsnws/dataselect/1/version", "")?;
+    let nothing = plain(alloc, "GET /nothing", "")?;
+    assert!(rt; is_told(&rt, alloc, &mut desk, &version, 200, (0, 0, 0))?);
+    assert!(rt; is_told(&rt, alloc, &mut desk, &nothing, 404, (0, 0, 0))?);
     Ok(())
 }
 
