@@ -40,10 +40,10 @@ mapped_if P f None h = tt
 mapped_if P f (Some a) h = h
 
 module _ (xs ys : List ℕ) (n : ℕ) (same : take n xs ≡ take n ys) where
-  byte_same : (p : ℕ) → p < n → get_or xs p 0 ≡ get_or ys p 0
+  pub byte_same : (p : ℕ) → p < n → get_or xs p 0 ≡ get_or ys p 0
   byte_same p h = sym (get_or-take n xs p 0 h) ∙ ap (λ (l : List ℕ). get_or l p 0) same ∙ get_or-take n ys p 0 h
 
-  u16_same : (little : Bool) (p : ℕ) → p + 2 ≤ n → u16_at little xs p ≡ u16_at little ys p
+  pub u16_same : (little : Bool) (p : ℕ) → p + 2 ≤ n → u16_at little xs p ≡ u16_at little ys p
   u16_same false p h = omega (arith, byte_same p (omega arith), byte_same (suc p) (omega arith))
   u16_same true p h = omega (arith, byte_same p (omega arith), byte_same (suc p) (omega arith))
 
@@ -51,16 +51,16 @@ module _ (xs ys : List ℕ) (n : ℕ) (same : take n xs ≡ take n ys) where
   i32_same false p h = omega (arith, byte_same p (omega arith), byte_same (suc p) (omega arith), byte_same (suc (suc p)) (omega arith), byte_same (suc (suc (suc p))) (omega arith))
   i32_same true p h = omega (arith, byte_same p (omega arith), byte_same (suc p) (omega arith), byte_same (suc (suc p)) (omega arith), byte_same (suc (suc (suc p))) (omega arith))
 
-  field_same : (at size : ℕ) → at + size ≤ n → bytes_at xs at size ≡ bytes_at ys at size
+  pub field_same : (at size : ℕ) → at + size ≤ n → bytes_at xs at size ≡ bytes_at ys at size
   field_same at size h =
       let whole : take (at + size) xs ≡ take (at + size) ys = sym (take-take (at + size) n xs h) ∙ ap (take (at + size)) same ∙ take-take (at + size) n ys h in
       sym (drop-take at size xs) ∙ ap (drop at) whole ∙ drop-take at size ys
 
   module _ (little : Bool) where
-    end_same : (p : ℕ) → p + 4 ≤ n → end_at little xs p ≡ end_at little ys p
+    pub end_same : (p : ℕ) → p + 4 ≤ n → end_at little xs p ≡ end_at little ys p
     end_same p h = ap (λ (k : ℕ). p + (if k == 1000 || k == 1001 then 8 else 4)) (u16_same little p (omega arith))
 
-    offsets_same : (low first : ℕ) (ps : List ℕ) → AreOffsets little xs low first ps → EndWithin little xs n ps → n ≤ length ys → AreOffsets little ys low first ps
+    pub offsets_same : (low first : ℕ) (ps : List ℕ) → AreOffsets little xs low first ps → EndWithin little xs n ps → n ≤ length ys → AreOffsets little ys low first ps
     offsets_same low first [] h all whole = tt
     offsets_same low first (p ∷ ps) h all whole =
         let inside : p + 4 ≤ n = omega (arith, size_least little xs p, all.0) in
@@ -73,7 +73,7 @@ module _ (xs ys : List ℕ) (n : ℕ) (same : take n xs ≡ take n ys) where
           subst (λ (e : ℕ). AreOffsets little ys e (next_at little ys p) ps) ends (subst (λ (q : ℕ). AreOffsets little ys (end_at little xs p) q ps) next (offsets_same (end_at little xs p) (next_at little xs p) ps h.4 all.1 whole)),
         )
 
-    next_same : (first : ℕ) (ps : List ℕ) → EndWithin little xs n ps → next_after little xs first ps ≡ next_after little ys first ps
+    pub next_same : (first : ℕ) (ps : List ℕ) → EndWithin little xs n ps → next_after little xs first ps ≡ next_after little ys first ps
     next_same first [] all = refl
     next_same first (p ∷ ps) all =
         let inside : p + 4 ≤ n = omega (arith, size_least little xs p, all.0) in
@@ -105,18 +105,18 @@ module _ (xs ys : List ℕ) (n : ℕ) (same : take n xs ≡ take n ys) where
     exponents_same : (ps : List ℕ) → EndWithin little xs n ps → option_map (exponent_at xs) (first_of little xs 1000 ps) ≡ option_map (exponent_at ys) (first_of little ys 1000 ps)
     exponents_same ps all = mapped_same (exponent_at xs) (exponent_at ys) 1000 (λ p kind h. byte_same (p + 6) (omega (arith, wide_1000 p kind))) ps all
 
-    exponent_same : (ps : List ℕ) → EndWithin little xs n ps → HasExponent little xs ps → HasExponent little ys ps
+    pub exponent_same : (ps : List ℕ) → EndWithin little xs n ps → HasExponent little xs ps → HasExponent little ys ps
     exponent_same ps all h =
         mapped_if (IsInRange 7 16) (exponent_at ys) (first_of little ys 1000 ps)
         (subst (λ (x : Option ℕ). IfSome x (IsInRange 7 16)) (exponents_same ps all) (if_mapped (IsInRange 7 16) (exponent_at xs) (first_of little xs 1000 ps) h))
 
-    record_same : (ps : List ℕ) → EndWithin little xs n ps → record_size little xs ps ≡ record_size little ys ps
+    pub record_same : (ps : List ℕ) → EndWithin little xs n ps → record_size little xs ps ≡ record_size little ys ps
     record_same ps all = mapped_same (λ p. 2 ^ exponent_at xs p) (λ p. 2 ^ exponent_at ys p) 1000 (λ p kind h. ap (λ (e : ℕ). 2 ^ e) (byte_same (p + 6) (omega (arith, wide_1000 p kind)))) ps all
 
-    told_same : (ps : List ℕ) → EndWithin little xs n ps → told_micros little xs ps ≡ told_micros little ys ps
+    pub told_same : (ps : List ℕ) → EndWithin little xs n ps → told_micros little xs ps ≡ told_micros little ys ps
     told_same ps all = mapped_same (λ p. i8_at xs (p + 5)) (λ p. i8_at ys (p + 5)) 1001 (λ p kind h. ap (cast_signed w8) (byte_same (p + 5) (omega (arith, wide_1001 p kind)))) ps all
 
-    chain_same : (ps : List ℕ) → 48 ≤ n → n ≤ length ys → EndWithin little xs n ps → IsChain little xs ps → IsChain little ys ps
+    pub chain_same : (ps : List ℕ) → 48 ≤ n → n ≤ length ys → EndWithin little xs n ps → IsChain little xs ps → IsChain little ys ps
     chain_same ps long whole all h =
         let first = u16_same little 46 (omega arith) in
         record {
@@ -124,7 +124,7 @@ module _ (xs ys : List ℕ) (n : ℕ) (same : take n xs ≡ take n ys) where
           ends = ap (λ (q : ℕ). next_after little ys q ps) (sym first) ∙ sym (next_same (first_at little xs) ps all) ∙ h.ends;
         }
 
-    time_same : 48 ≤ n → time_at little xs ≡ time_at little ys
+    pub time_same : 48 ≤ n → time_at little xs ≡ time_at little ys
     time_same long =
         let year = u16_same little 20 (omega arith) in
         let day = u16_same little 22 (omega arith) in
@@ -134,12 +134,12 @@ module _ (xs ys : List ℕ) (n : ℕ) (same : take n xs ≡ take n ys) where
         let fraction = u16_same little 28 (omega arith) in
         λ i. record { year = year i; day = day i; hour = hour i; minute = minute i; second = second i; fraction = fraction i }
 
-    correction_same : 48 ≤ n → correction little xs ≡ correction little ys
+    pub correction_same : 48 ≤ n → correction little xs ≡ correction little ys
     correction_same long =
         ap (λ (b : ℕ). if bit_and b 2 == 0 then i32_at little xs 40 else pos 0) (byte_same 36 (omega arith))
         ∙ ap (λ (k : ℕ). if bit_and (slice_index ys 36) 2 == 0 then cast_signed w32 k else pos 0) (i32_same little 40 (omega arith))
 
-    rate_same : 48 ≤ n → rate_of little xs ≡ rate_of little ys
+    pub rate_same : 48 ≤ n → rate_of little xs ≡ rate_of little ys
     rate_same long =
         ap (λ (k : ℕ). if k == 0 then (0, 1) else seed_rate (i16_at little xs 32) (i16_at little xs 34)) (u16_same little 30 (omega arith))
         ∙ ap (λ (k : ℕ). if samples_of little ys == 0 then (0, 1) else seed_rate (cast_signed w16 k) (i16_at little xs 34)) (u16_same little 32 (omega arith))

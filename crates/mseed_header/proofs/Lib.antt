@@ -8,8 +8,10 @@ pub mod Octets
 pub mod OneBatch
 pub mod OneChain
 pub mod OneHeader
+pub mod Overruns
 pub mod Qualities
 pub mod Rows
 pub mod Starts
+pub mod Stays
 pub mod Steps
 pub mod Walked

@@ -68,7 +68,7 @@ exponent_or_not little bytes None at =
           ]
     ]
 
-whole_end : (little : Bool) (bytes : List ℕ) (at : ℕ) → reach_at little bytes at ≤ length bytes → end_at little bytes at ≤ length bytes
+pub whole_end : (little : Bool) (bytes : List ℕ) (at : ℕ) → reach_at little bytes at ≤ length bytes → end_at little bytes at ≤ length bytes
 whole_end little bytes at h = let least = size_least little bytes at in grind (arith, nat_tests)
 
 stands_or_not : (little : Bool) (bytes : List ℕ) (known : Option ℕ) (low at : ℕ) → Stands little bytes known low at ⊎ ((f : RecordFault) × RefusesAt little bytes known low at f)

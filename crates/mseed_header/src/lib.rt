@@ -27,8 +27,8 @@ pub use batch::count_records;
 pub use cut::{CutFault, cut_records};
 pub use header::{Header, RecordFault};
 pub use law::{
-    bytes_are_records_or_one_is_the_first_refused, bytes_begin_with_one_header_or_have_one_fault,
-    qualities_are_in_order_of_their_letters,
+    a_refusal_stays, bytes_are_records_or_one_is_the_first_refused,
+    bytes_begin_with_one_header_or_have_one_fault, qualities_are_in_order_of_their_letters,
 };
 pub use quality::Quality;
 pub use read::read_header;
