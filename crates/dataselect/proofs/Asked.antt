@@ -77,10 +77,10 @@ selected_decides s h =
     let reach = holds_decides (λ t. reaches h t.micros) (λ t. IsReached h t.micros) (λ t. ge_decides _ _) s.start in
     let start = holds_decides (λ t. starts_by h t.micros) (λ t. h.start.micros ≤ℤ t.micros) (λ t. le_decides h.start.micros t.micros) s.end in (
       λ k.
-          let p = and_parts (n && r) e k in
-          let q = and_parts n r p.0 in
-          record { named = (named_decides s h.name).0 q.0; start = reach.0 q.1; end = start.0 p.1 },
-      λ k. and_from (n && r) e (and_from n r ((named_decides s h.name).1 k.named) (reach.1 k.start)) (start.1 k.end),
+          let p = and_parts n (r && e) k in
+          let q = and_parts r e p.1 in
+          record { named = (named_decides s h.name).0 p.0; start = reach.0 q.0; end = start.0 q.1 },
+      λ k. and_from n (r && e) ((named_decides s h.name).1 k.named) (and_from r e (reach.1 k.start) (start.1 k.end)),
     )
 
 pub asked_decides : (query : DataQuery) (h : Header) → IsTrue (is_asked query h) ↔ IsAskedBy query h

@@ -1,17 +1,15 @@
 -- The floor of the greater of two times is the greater floor.
-use Rattle.std.proofs.Common.{◌≡◌, ℕ, zero, suc, ◌+◌, ◌-◌, ◌*◌, ◌<◌, ◌≤◌, ◌==◌, ℤ, pos, negsuc, ◌+ℤ◌, ◌-ℤ◌, ◌*ℤ◌, ◌≤ℤ◌, ◌<ℤ◌, true, false, refl, sym, ap, ◌∙◌, arith, cond, subst, Ordering, nat_cmp, true≢false}
+use Rattle.std.proofs.Common.{◌≡◌, ℕ, zero, suc, ◌-◌, ◌*◌, ◌<◌, ◌==◌, ℤ, pos, negsuc, ◌+ℤ◌, ◌-ℤ◌, ◌*ℤ◌, ◌≤ℤ◌, ◌<ℤ◌, true, false, refl, sym, ap, ◌∙◌, arith, cond, subst, Ordering, nat_cmp, true≢false}
 use Rattle.std.specs.Prelude.{int_le, neg_ℤ, unsigned_abs}
 use Rattle.std.specs.Int.{int_max}
 use Rattle.std.specs.Ordering.{int_cmp, is_ge, ordering_then, match_ordering, MatchOrdering}
 use Rattle.std.specs.declared.cmp.Ordering.TheVariants.{Less, Equal, Greater}
 use Rattle.std.proofs.lemmas.Cmp.{int_ranked}
 use Rattle.std.proofs.lemmas.Int.{ints, by_lt_z}
-use Rattle.std.proofs.lemmas.Bool.Decides.{nat_tests}
-use Rattle.std.proofs.Math.Nat.{mul-le-mul_right, mul_right_comm}
+use Rattle.std.proofs.Math.Nat.{mul_right_comm}
 use Rattle.list_laws.specs.Greater.{greater}
 use Rattle.exact_time.specs.SampleTime.{sample_parts, floor_at}
 use Rattle.exact_time.proofs.Wholes.{times_more, some_parts, floor_decides}
-use Rattle.mseed_header.specs.Times.{last_index}
 use Rattle.mseed_header.specs.declared.header.Header.{Header}
 use Rattle.dataselect.specs.MergedSpans.{SampleAt, micros_at, at_cmp, last_at}
 

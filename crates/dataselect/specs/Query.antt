@@ -30,10 +30,13 @@ reaches h micros = is_ge (compare_sample h.start.micros (last_index h) h.rate mi
 abbrev pub starts_by : Header → ℤ → Bool
 starts_by h micros = int_le h.start.micros micros
 
+-- the record's time meets the window
+abbrev pub meets : Selection → Header → Bool
+meets s h = holds (λ t. reaches h t.micros) s.start && holds (λ t. starts_by h t.micros) s.end
+
 -- the codes match, and the record's time meets the window
 unfoldable pub is_selected : Selection → Header → Bool
-is_selected s h =
-    is_named s h.name && holds (λ t. reaches h t.micros) s.start && holds (λ t. starts_by h t.micros) s.end
+is_selected s h = is_named s h.name && meets s h
 
 -- the record has the asked quality, and some selection selects it
 unfoldable pub is_asked : DataQuery → Header → Bool

@@ -6,7 +6,7 @@ ghost use Rattle.dataselect.specs.DataBody.{answer_of, images_at, RefusesAs};
 use crate::query::DataQuery;
 use crate::shelf::Shelf;
 use crate::sight::Sight;
-use exact_time::{Bytes, OutOfMemory};
+use exact_time::{Bytes, Many, OutOfMemory};
 use mseed_header::Row;
 use std::alloc::Global;
 use std::error::Error;
@@ -77,6 +77,29 @@ fn body<S: Shelf>(alloc: Global, shelf: &S, places: &[usize]) -> Result<Bytes, O
     Ok(body)
 }
 
+/// The places of the picked records, whose bytes one after another are the data body: Empty where none is
+/// picked, TooLarge where they have more than `max_bytes` bytes.
+pub fn answer_places<S: Shelf, V: Sight>(
+    shelf: &S,
+    sight: &V,
+    query: &DataQuery,
+    max_bytes: u64,
+) -> Result<Many<usize>, DataRefusal>
+    ensures inside { IfOk result (λ places. AllByRecursion (λ i. i < length (S.rows shelf.now)) places) }
+    ensures body { IfOk result (λ places. answer_of (V.seen sight.now) query.now max_bytes (S.rows shelf.now) ≡ Ok (images_at (S.rows shelf.now) places)) }
+    ensures refused { IfErr result (RefusesAs (answer_of (V.seen sight.now) query.now max_bytes (S.rows shelf.now))) }
+{
+    let places = shelf.choose(sight, query)?;
+    if places.is_empty() {
+        return Err(DataRefusal::Empty);
+    }
+    let total = total_size(shelf, places.as_slice());
+    if total > max_bytes {
+        return Err(DataRefusal::TooLarge(total));
+    }
+    Ok(places)
+}
+
 /// The picked records, one after another: Empty where none is picked, TooLarge where they have more
 /// than `max_bytes` bytes.
 pub fn answer<S: Shelf, V: Sight>(
@@ -89,13 +112,6 @@ pub fn answer<S: Shelf, V: Sight>(
     ensures body { IfOk result (λ body. answer_of (V.seen sight.now) query.now max_bytes (S.rows shelf.now) ≡ Ok body) }
     ensures refused { IfErr result (RefusesAs (answer_of (V.seen sight.now) query.now max_bytes (S.rows shelf.now))) }
 {
-    let places = shelf.choose(sight, query)?;
-    if places.is_empty() {
-        return Err(DataRefusal::Empty);
-    }
-    let total = total_size(shelf, places.as_slice());
-    if total > max_bytes {
-        return Err(DataRefusal::TooLarge(total));
-    }
+    let places = answer_places(shelf, sight, query, max_bytes)?;
     Ok(body(alloc, shelf, places.as_slice())?)
 }

@@ -27,7 +27,7 @@ mod span;
 mod span_order;
 mod spans;
 
-pub use answers::{DataRefusal, answer};
+pub use answers::{DataRefusal, answer, answer_places};
 pub use law::{
     chosen_in_the_subjects_words, names_in_the_subjects_words, picked_in_the_subjects_words,
     rows_put_in_together_are_held, rows_that_are_asked_for_decide, spans_in_the_subjects_words,

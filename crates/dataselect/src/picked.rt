@@ -99,20 +99,22 @@ fn longest_places(
 }
 
 /// The places of the rows of the segments that a query picks, where the rows at these places are in
-/// order of their names.
+/// order of their names. Where nothing is asked of the segments, these are all places, and no row is read.
 pub fn pick(
     alloc: Global,
     rows: &[Row],
-    places: &[usize],
+    places: Many<usize>,
     query: &DataQuery,
 ) -> Result<Many<usize>, OutOfMemory>
-    requires inside { AllByRecursion (λ i. i < length rows.now) places.now }
-    requires names { NamesRise rows.now places.now }
-    ensures picked { IfOk result (λ picked. picked ≡ picked_of query.now rows.now places.now) }
+    requires inside { AllByRecursion (λ i. i < length rows.now) places }
+    requires names { NamesRise rows.now places }
+    ensures picked { IfOk result (λ picked. picked ≡ picked_of query.now rows.now places) }
 {
     if query.longest {
-        longest_places(alloc, rows, places, query.minimum)
+        longest_places(alloc, rows, places.as_slice(), query.minimum)
+    } else if query.minimum == 0 {
+        Ok(places)
     } else {
-        long_places(alloc, rows, places, query.minimum)
+        long_places(alloc, rows, places.as_slice(), query.minimum)
     }
 }

@@ -170,7 +170,7 @@ impl Shelf for PlainShelf {
     fn choose<V: Sight>(&self, sight: &V, query: &DataQuery) -> Result<Many<usize>, OutOfMemory> {
         let rows = self.rows.as_slice();
         let places = chosen(self.alloc, rows, sight, query)?;
-        pick(self.alloc, rows, places.as_slice(), query)
+        pick(self.alloc, rows, places, query)
     }
 
     fn names(&self, selection: &Selection) -> Result<Many<Nslc>, OutOfMemory> {

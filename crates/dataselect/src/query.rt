@@ -2,7 +2,7 @@
 ghost use Rattle.std.specs.Prelude.{◌≡◌, ◌==◌};
 ghost use Rattle.std.specs.List.{list_any};
 ghost use Rattle.mseed_header.specs.Quality.{quality_letter};
-ghost use Rattle.dataselect.specs.Query.{holds, is_asked, is_named, is_selected, starts_by, reaches};
+ghost use Rattle.dataselect.specs.Query.{holds, is_asked, is_named, is_selected, meets, starts_by, reaches};
 
 use channel_globs::{Nslc, PatternList};
 use exact_time::{Many, Moment, cmp_sample_time};
@@ -54,12 +54,19 @@ impl Selection {
             && self.channel.matches(&name.channel)
     }
 
+    /// Whether the record's time meets the window, whatever its codes are.
+    pub fn meets(&self, header: &Header) -> bool
+        ensures { result ≡ meets self.now header.now }
+    {
+        is_reached(header, self.start) && is_started(header, self.end)
+    }
+
     /// Whether the four codes match and the record's time meets the window.
     #[tactic(auto, unfolding(crate::specs::Query::is_selected))]
     pub fn selects(&self, header: &Header) -> bool
         ensures { result ≡ is_selected self.now header.now }
     {
-        self.names(&header.name) && is_reached(header, self.start) && is_started(header, self.end)
+        self.names(&header.name) && self.meets(header)
     }
 }
 

@@ -136,9 +136,9 @@ record Asks (sel : Selection) (h : Header) : Type 0 where
 asks : (sel : Selection) (h : Header) → is_selected sel h ≡ true → Asks sel h
 unfolding is_selected
 asks sel h is =
-    let outer = and_parts (is_named sel h.name && holds (λ t. reaches h t.micros) sel.start) (holds (λ t. starts_by h t.micros) sel.end) is in
-    let inner = and_parts (is_named sel h.name) (holds (λ t. reaches h t.micros) sel.start) outer.0 in
-    record { named = inner.0; reached = inner.1; started = outer.1 }
+    let outer = and_parts (is_named sel h.name) (holds (λ t. reaches h t.micros) sel.start && holds (λ t. starts_by h t.micros) sel.end) is in
+    let inner = and_parts (holds (λ t. reaches h t.micros) sel.start) (holds (λ t. starts_by h t.micros) sel.end) outer.1 in
+    record { named = outer.0; reached = inner.0; started = inner.1 }
 
 module _ (rows : List Row) (m : BTreeMap Nslc Channel) (index : IsChannelIndex rows m) (i : ℕ) (row : Row) (at : slice_get rows i ≡ Some row) where
   held : has_spot m row.header.name (spot_at i row) ≡ true

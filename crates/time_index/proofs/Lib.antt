@@ -11,8 +11,11 @@ pub mod Mending
 pub mod Named
 pub mod NamesFound
 pub mod PlacesFound
+pub mod Rising
 pub mod Sets
 pub mod Shrunk
 pub mod Singles
 pub mod SpansFound
+pub mod Tested
 pub mod Twins
+pub mod Whose

@@ -1,6 +1,6 @@
 -- What the channels of a shelf say of its rows.
-use Rattle.std.specs.Prelude.{◌≡◌, ℕ, ◌*◌, ◌≤◌, Bool, false, ◌&&◌, List, Option, Some, None}
-use Rattle.std.specs.List.{slice_get}
+use Rattle.std.specs.Prelude.{◌≡◌, ℕ, ◌*◌, ◌≤◌, Bool, false, ◌&&◌, List, Option, Some, None, IfSome}
+use Rattle.std.specs.List.{slice_get, AllByRecursion}
 use Rattle.std.specs.Ordering.{eq_by_cmp}
 use Rattle.std.specs.BTreeMap.{BTreeMap}
 use Rattle.exact_time.specs.SampleTime.{sample_parts}
@@ -20,6 +20,14 @@ is_there name spot (Some row) = is_same row.header.name name && eq_by_cmp spot_c
 -- a row of this name stands at the spot
 abbrev pub stands : List Row → Nslc → Spot → Bool
 stands rows name spot = is_there name spot (slice_get rows spot.place)
+
+-- a row has this name, if there is one
+abbrev pub IsOfName : Nslc → Option Row → Type 0
+IsOfName name o = IfSome o (λ row. row.header.name ≡ name)
+
+-- the rows at these spots have this name
+abbrev pub AreOfName : List Row → Nslc → List Spot → Type 0
+AreOfName rows name spots = AllByRecursion (λ spot. IsOfName name (slice_get rows spot.place)) spots
 
 -- The last sample is at most so many microseconds after the first: each sample period has `den / num`
 -- seconds, and both sides are multiplied by the divisor. At rate 0 there is one sample.

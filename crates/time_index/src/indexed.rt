@@ -2,7 +2,9 @@
 ghost use Rattle.std.specs.Prelude.{◌≡◌, ℕ, ◌+◌, ◌-◌, ◌^◌, ◌<◌, ◌≤◌, true, [], ◌∷◌, ◌++◌, length, take, map, IfOk, OnOk, OnErr};
 ghost use Rattle.std.specs.Vec.{vec_len, vec_capacity};
 ghost use Rattle.dataselect.specs.Chosen.{chosen_places, ranks_chosen};
+ghost use Rattle.list_laws.specs.InOrder.{in_order};
 ghost use Rattle.dataselect.specs.HeldNames.{names_of};
+ghost use Rattle.dataselect.specs.Order.{rank_cmp};
 ghost use Rattle.std.specs.List.{list_any};
 ghost use Rattle.dataselect.specs.MergedSpans.{value_of, merged_spans_of, has_name};
 ghost use Rattle.dataselect.specs.Places.{places_named};
@@ -15,16 +17,15 @@ use crate::channels::{Channel, add_spot, remove_spot};
 use crate::doubles::is_twin;
 use crate::names::{has_name, names_matched};
 use crate::spot::{Spot, micros_lasted, spot_of};
-use crate::windows::{in_order, ranks_found, ranks_walked};
+use crate::windows::{places_in_order, ranks_found, ranks_walked};
 use channel_globs::Nslc;
 use dataselect::{
-    DataQuery, Inserted, Rank, Selection, Shelf, Sight, Span, list_names, pick, places_of,
-    spans_ranked,
+    DataQuery, Inserted, Rank, Selection, Shelf, Sight, Span, list_names, pick, spans_ranked,
 };
 use exact_time::{Many, OutOfMemory};
 use mseed_header::Row;
 use std::alloc::Global;
-use std::collections::{BTreeMap, BTreeSet};
+use std::collections::BTreeMap;
 
 /// A shelf that finds its rows by channel and time, and keeps no spans: it makes them of its rows when they are
 /// asked for. An insertion costs a logarithm, and a query the rows of the windows of its selections. A sender who
@@ -129,21 +130,18 @@ impl TimeIndex {
         Ok(())
     }
 
-    // The ranks of the rows that are seen and asked for, in order. Where many selections ask for the same rows, a
-    // walk over all rows is no dearer.
+    // The ranks of the rows that are seen and asked for, in any order, some of them several times. Where many
+    // selections ask for the same rows, a walk over all rows is no dearer.
     fn ranks_chosen<V: Sight>(
         &self,
         sight: &V,
         query: &DataQuery,
-    ) -> Result<BTreeSet<Rank>, OutOfMemory>
-        ensures { IfOk result (λ ranks. ranks.keys ≡ ranks_chosen (V.seen sight.now) query.now self.now.rows.items) }
+    ) -> Result<Many<Rank>, OutOfMemory>
+        ensures { IfOk result (λ ranks. in_order rank_cmp [] ranks ≡ ranks_chosen (V.seen sight.now) query.now self.now.rows.items) }
     {
         match ranks_found(self.alloc, &self.rows, &self.channels, sight, query)? {
-            Some(ranks) => in_order(self.alloc, ranks),
-            None => {
-                let ranks = ranks_walked(self.alloc, &self.rows, sight, query)?;
-                in_order(self.alloc, ranks)
-            }
+            Some(ranks) => Ok(ranks),
+            None => ranks_walked(self.alloc, &self.rows, sight, query),
         }
     }
 
@@ -152,7 +150,7 @@ impl TimeIndex {
         ensures { IfOk result (λ places. places ≡ chosen_places (V.seen sight.now) query.now self.now.rows.items) }
     {
         let ranks = self.ranks_chosen(sight, query)?;
-        places_of(self.alloc, &ranks)
+        places_in_order(self.alloc, ranks)
     }
 }
 
@@ -187,7 +185,7 @@ impl Shelf for TimeIndex {
 
     fn choose<V: Sight>(&self, sight: &V, query: &DataQuery) -> Result<Many<usize>, OutOfMemory> {
         let places = self.chosen(sight, query)?;
-        pick(self.alloc, self.rows.as_slice(), places.as_slice(), query)
+        pick(self.alloc, self.rows.as_slice(), places, query)
     }
 
     fn names(&self, selection: &Selection) -> Result<Many<Nslc>, OutOfMemory> {

@@ -10,6 +10,7 @@
 //! (`specs/Kept.antt`). [`TimeIndex`] keeps none, and makes those of a name of the rows of its channel.
 #![tactic(auto)]
 
+mod asked;
 mod channel_kept;
 mod channel_spans;
 mod channels;

@@ -5,10 +5,9 @@ ghost use Rattle.channel_globs.specs.declared.nslc.Nslc.{Nslc};
 ghost use Rattle.channel_globs.specs.Names.{name_cmp};
 ghost use Rattle.dataselect.specs.Chosen.{passes};
 ghost use Rattle.time_index.specs.Wholes.{SeesAll};
-ghost use Rattle.time_index.specs.Windows.{passes_by};
 
 use channel_globs::Nslc;
-use dataselect::{DataQuery, Selection, Sight};
+use dataselect::{DataQuery, Sight};
 use exact_time::OutOfMemory;
 use mseed_header::Row;
 use std::alloc::Global;
@@ -17,7 +16,7 @@ use std::collections::BTreeMap;
 /// A sight that is asked once for each channel whether it sees all of it, and then for no row of it.
 #[derive(Drop)]
 pub struct Wholes<'a, V: Sight> {
-    sight: &'a V,
+    pub sight: &'a V,
     // Of the channels that were asked for, whether they are seen whole.
     names: BTreeMap<Nslc, bool>,
     ghost known: { (name : Nslc) → get name_cmp names name ≡ Some true → SeesAll (V.seen sight.now) name },
@@ -34,8 +33,8 @@ impl<'a, V: Sight> Wholes<'a, V> {
         }
     }
 
-    // Whether the sight sees all rows of the channel, where it tells.
-    fn is_whole(&mut self, name: &Nslc) -> Result<bool, OutOfMemory>
+    /// Whether the sight sees all rows of the channel, where it tells.
+    pub fn is_whole(&mut self, name: &Nslc) -> Result<bool, OutOfMemory>
         ensures whole { IfOk result (λ whole. IsTrue whole → SeesAll (V.seen self.old.sight.now) name.now) }
         ensures sight { self.new.sight.now ≡ self.old.sight.now }
     {
@@ -53,19 +52,6 @@ impl<'a, V: Sight> Wholes<'a, V> {
         ensures sight { self.new.sight.now ≡ self.old.sight.now }
     {
         Ok(self.is_whole(&row.header.name)? || self.sight.sees(row))
-    }
-
-    /// Whether the row is seen, and that selection of the query asks for it.
-    pub fn is_chosen(
-        &mut self,
-        query: &DataQuery,
-        selection: &Selection,
-        row: &Row,
-    ) -> Result<bool, OutOfMemory>
-        ensures chosen { IfOk result (λ chosen. chosen ≡ passes_by (V.seen self.old.sight.now) query.now selection.now row.now) }
-        ensures sight { self.new.sight.now ≡ self.old.sight.now }
-    {
-        Ok(self.sees(row)? && query.has_quality(&row.header) && selection.selects(&row.header))
     }
 
     /// Whether the row is seen and asked for.

@@ -1,16 +1,20 @@
 //! The rows that the windows of selections find.
-ghost use Rattle.std.specs.Prelude.{◌≡◌, ℕ, ◌++◌, ◌<◌, List, IsNone, OnOk, IfOk, IfSome, [], length};
+ghost use Rattle.std.specs.Prelude.{◌≡◌, ◌++◌, ◌<◌, true, map, IsNone, OnOk, IfOk, IfSome, [], length};
 ghost use Rattle.std.specs.List.{slice_get};
+ghost use Rattle.std.specs.List.Sorted.{IsStrictlySortedBy};
 ghost use Rattle.list_laws.specs.InOrder.{in_order};
-ghost use Rattle.dataselect.specs.Chosen.{passes, ranks_from};
+ghost use Rattle.dataselect.specs.Chosen.{ranks_from};
 ghost use Rattle.dataselect.specs.Order.{rank_cmp};
-ghost use Rattle.time_index.specs.Windows.{first_spot_at, lower_of, upper_of, from_bound, to_bound, is_forward, places_between, places_at, places_in, single_name, places_by, window_places, passes_by, rank_if, ranks_at, ranks_found};
+ghost use Rattle.dataselect.specs.Query.{is_named};
+ghost use Rattle.time_index.specs.Index.{IsChannelIndex, IsOfName, AreOfName};
+ghost use Rattle.time_index.specs.Windows.{first_spot_at, lower_of, upper_of, from_bound, to_bound, is_forward, places_between, places_at, places_in, single_name, window_places, passes_by, rank_if, ranks_at, ranks_found};
 
+use crate::asked::Asked;
 use crate::channels::Channel;
 use crate::spot::Spot;
 use crate::wholes::Wholes;
 use channel_globs::Nslc;
-use dataselect::{DataQuery, Rank, Selection, Sight, rank_of};
+use dataselect::{DataQuery, Rank, Selection, Sight, places_of, rank_of};
 use exact_time::{Many, Moment, OutOfMemory};
 use mseed_header::Row;
 use std::alloc::Global;
@@ -77,49 +81,104 @@ fn is_forward(lower: Option<Spot>, upper: Option<Spot>) -> bool
     }
 }
 
-// Adds the places of the spots from one up to before another.
+// Adds the rank of the row at a place of the channel, if it is asked for.
+fn add_rank<V: Sight>(
+    ranks: &mut Many<Rank>,
+    asked: &Asked<'_, V>,
+    rows: &[Row],
+    place: usize,
+) -> Result<(), OutOfMemory>
+    requires of_it { IsOfName asked.now.name.now (slice_get rows.now place) }
+    ensures ok { OnOk result (ranks.new ≡ ranks.old ++ rank_if (passes_by (V.seen asked.now.sight.now) asked.now.query.now asked.now.selection.now) place (slice_get rows.now place) []) }
+{
+    let Some(row) = rows.get(place) else {
+        return Ok(());
+    };
+    if asked.has(row) {
+        ranks.push(rank_of(place, row))?;
+    }
+    Ok(())
+}
+
+// Adds the ranks of the rows that are asked for, of the spots from one up to before another.
 #[tactic(auto, unfolding(crate::specs::Windows::places_between))]
-fn add_between(
-    places: &mut Many<usize>,
+fn add_between<V: Sight>(
+    ranks: &mut Many<Rank>,
+    asked: &Asked<'_, V>,
+    rows: &[Row],
     spots: &BTreeSet<Spot>,
     lower: Option<Spot>,
     upper: Option<Spot>,
 ) -> Result<(), OutOfMemory>
-    ensures ok { OnOk result (places.new ≡ places.old ++ places_between lower upper spots.now) }
+    requires of_it { AreOfName rows.now asked.now.name.now spots.now.keys }
+    ensures ok { OnOk result (ranks.new ≡ ranks.old ++ ranks_at (passes_by (V.seen asked.now.sight.now) asked.now.query.now asked.now.selection.now) rows.now (places_between lower upper spots.now)) }
 {
     if is_forward(lower, upper) {
         'spots: for spot in spots.range((from_bound(lower), to_bound(upper))) {
-            places.push(spot.place)?;
+            add_rank(ranks, asked, rows, spot.place)?;
         }
     }
     Ok(())
 }
 
-// Adds the places of a channel's rows that may meet the selection's window.
+// Adds the ranks of the channel's rows that are asked for.
 #[tactic(auto, unfolding(crate::specs::Windows::places_at))]
-fn add_channel(
-    places: &mut Many<usize>,
+fn add_asked<V: Sight>(
+    ranks: &mut Many<Rank>,
+    asked: &Asked<'_, V>,
+    rows: &[Row],
     channel: &Channel,
-    selection: &Selection,
 ) -> Result<(), OutOfMemory>
-    ensures ok { OnOk result (places.new ≡ places.old ++ places_at selection.now channel.now) }
+    requires of_it { AreOfName rows.now asked.now.name.now channel.now.spots.keys }
+    ensures ok { OnOk result (ranks.new ≡ ranks.old ++ ranks_at (passes_by (V.seen asked.now.sight.now) asked.now.query.now asked.now.selection.now) rows.now (places_at asked.now.selection.now channel.now)) }
 {
-    let lower = lower(selection.start, channel.longest);
-    let upper = upper(selection.end);
-    add_between(places, &channel.spots, lower, upper)
+    let lower = lower(asked.selection.start, channel.longest);
+    let upper = upper(asked.selection.end);
+    add_between(ranks, asked, rows, &channel.spots, lower, upper)
 }
 
-// Adds the places of the rows of each channel that the selection names and whose time may meet its window.
-fn add_channels(
-    places: &mut Many<usize>,
-    channels: &BTreeMap<Nslc, Channel>,
+// Adds the ranks of the rows of a channel that the selection names which are seen and asked for.
+fn add_channel<V: Sight>(
+    ranks: &mut Many<Rank>,
+    wholes: &mut Wholes<'_, V>,
+    rows: &[Row],
+    name: &Nslc,
+    channel: &Channel,
+    query: &DataQuery,
     selection: &Selection,
 ) -> Result<(), OutOfMemory>
-    ensures ok { OnOk result (places.new ≡ places.old ++ places_in selection.now channels.now.entries) }
+    requires named { is_named selection.now name.now ≡ true }
+    requires of_it { AreOfName rows.now name.now channel.now.spots.keys }
+    ensures ok { OnOk result (ranks.new ≡ ranks.old ++ ranks_at (passes_by (V.seen wholes.old.sight.now) query.now selection.now) rows.now (places_at selection.now channel.now)) }
+    ensures sight { wholes.new.sight.now ≡ wholes.old.sight.now }
+{
+    let whole = wholes.is_whole(name)?;
+    let asked = Asked {
+        sight: wholes.sight,
+        query,
+        selection,
+        name,
+        whole,
+    };
+    add_asked(ranks, &asked, rows, channel)
+}
+
+// Adds the ranks of the rows of each channel that the selection names which are seen and asked for.
+fn add_channels<V: Sight>(
+    ranks: &mut Many<Rank>,
+    wholes: &mut Wholes<'_, V>,
+    rows: &[Row],
+    channels: &BTreeMap<Nslc, Channel>,
+    query: &DataQuery,
+    selection: &Selection,
+) -> Result<(), OutOfMemory>
+    requires index { IsChannelIndex rows.now channels.now }
+    ensures ok { OnOk result (ranks.new ≡ ranks.old ++ ranks_at (passes_by (V.seen wholes.old.sight.now) query.now selection.now) rows.now (places_in selection.now channels.now.entries)) }
+    ensures sight { wholes.new.sight.now ≡ wholes.old.sight.now }
 {
     'channels: for (name, channel) in channels {
         if selection.names(name) {
-            add_channel(places, channel, selection)?;
+            add_channel(ranks, wholes, rows, name, channel, query, selection)?;
         }
     }
     Ok(())
@@ -137,67 +196,8 @@ pub fn single_name(selection: &Selection) -> Option<Nslc>
     })
 }
 
-// Adds the places of the rows that the selection names and whose time may meet its window. The channel of one
-// name is looked up.
-fn add_window(
-    places: &mut Many<usize>,
-    channels: &BTreeMap<Nslc, Channel>,
-    selection: &Selection,
-) -> Result<(), OutOfMemory>
-    ensures ok { OnOk result (places.new ≡ places.old ++ window_places selection.now channels.now) }
-{
-    let Some(name) = single_name(selection) else {
-        return add_channels(places, channels, selection);
-    };
-    match channels.get(&name) {
-        Some(channel) => add_channel(places, channel, selection),
-        None => Ok(()),
-    }
-}
-
-// Adds the rank of the row at a place, if it is seen and that selection of the query asks for it.
-fn add_rank<V: Sight>(
-    ranks: &mut Many<Rank>,
-    wholes: &mut Wholes<'_, V>,
-    rows: &[Row],
-    place: usize,
-    query: &DataQuery,
-    selection: &Selection,
-) -> Result<(), OutOfMemory>
-    ensures ok { OnOk result (ranks.new ≡ ranks.old ++ rank_if (passes_by (V.seen wholes.old.sight.now) query.now selection.now) place (slice_get rows.now place) []) }
-    ensures sight { wholes.new.sight.now ≡ wholes.old.sight.now }
-{
-    let Some(row) = rows.get(place) else {
-        return Ok(());
-    };
-    let chosen = wholes.is_chosen(query, selection, row)?;
-    if chosen {
-        ranks.push(rank_of(place, row))?;
-    }
-    Ok(())
-}
-
-// Adds the ranks of the rows at these places that are seen and that the selection asks for.
-fn add_ranks<V: Sight>(
-    ranks: &mut Many<Rank>,
-    wholes: &mut Wholes<'_, V>,
-    rows: &[Row],
-    places: &[usize],
-    query: &DataQuery,
-    selection: &Selection,
-) -> Result<(), OutOfMemory>
-    ensures ok { OnOk result (ranks.new ≡ ranks.old ++ ranks_at (passes_by (V.seen wholes.old.sight.now) query.now selection.now) rows.now places.now) }
-    ensures sight { wholes.new.sight.now ≡ wholes.old.sight.now }
-{
-    'places: for place in places {
-        add_rank(ranks, wholes, rows, *place, query, selection)?;
-    }
-    Ok(())
-}
-
-// Adds the ranks of the rows that a selection finds.
+// Adds the ranks of the rows that a selection finds. The channel of one name is looked up.
 fn add_found<V: Sight>(
-    alloc: Global,
     ranks: &mut Many<Rank>,
     wholes: &mut Wholes<'_, V>,
     rows: &[Row],
@@ -205,12 +205,17 @@ fn add_found<V: Sight>(
     query: &DataQuery,
     selection: &Selection,
 ) -> Result<(), OutOfMemory>
+    requires index { IsChannelIndex rows.now channels.now }
     ensures ok { OnOk result (ranks.new ≡ ranks.old ++ ranks_at (passes_by (V.seen wholes.old.sight.now) query.now selection.now) rows.now (window_places selection.now channels.now)) }
     ensures sight { wholes.new.sight.now ≡ wholes.old.sight.now }
 {
-    let mut places = Many::new(alloc);
-    add_window(&mut places, channels, selection)?;
-    add_ranks(ranks, wholes, rows, places.as_slice(), query, selection)
+    let Some(name) = single_name(selection) else {
+        return add_channels(ranks, wholes, rows, channels, query, selection);
+    };
+    match channels.get(&name) {
+        Some(channel) => add_channel(ranks, wholes, rows, &name, channel, query, selection),
+        None => Ok(()),
+    }
 }
 
 /// The ranks of the rows that the selections find, where they aren't many more than there are rows: a row that
@@ -222,6 +227,7 @@ pub fn ranks_found<V: Sight>(
     sight: &V,
     query: &DataQuery,
 ) -> Result<Option<Many<Rank>>, OutOfMemory>
+    requires index { IsChannelIndex rows.now channels.now }
     ensures some { IfOk result (λ found. IfSome found (λ ranks. ranks ≡ ranks_found (V.seen sight.now) query.now rows.now channels.now query.now.selections)) }
     ensures none { IfOk result (λ found. IsNone found → length rows.now < length (ranks_found (V.seen sight.now) query.now rows.now channels.now query.now.selections)) }
 {
@@ -231,15 +237,7 @@ pub fn ranks_found<V: Sight>(
         if rows.len() < ranks.len() {
             return Ok(None);
         }
-        add_found(
-            alloc,
-            &mut ranks,
-            &mut wholes,
-            rows,
-            channels,
-            query,
-            selection,
-        )?;
+        add_found(&mut ranks, &mut wholes, rows, channels, query, selection)?;
     }
     Ok(Some(ranks))
 }
@@ -263,10 +261,44 @@ pub fn ranks_walked<V: Sight>(
     Ok(ranks)
 }
 
-/// Ranks in order, each once.
-pub fn in_order(alloc: Global, ranks: Many<Rank>) -> Result<BTreeSet<Rank>, OutOfMemory>
+// Whether each rank is below the next.
+fn are_rising(ranks: &[Rank]) -> bool
+    ensures { result ≡ true → IsStrictlySortedBy rank_cmp ranks.now }
+{
+    'ranks: for index in 1..ranks.len() {
+        if ranks[index - 1].cmp(&ranks[index]).is_ge() {
+            return false;
+        }
+    }
+    true
+}
+
+// The places in the shelf, in the order of the list.
+fn list_places(alloc: Global, ranks: &[Rank]) -> Result<Many<usize>, OutOfMemory>
+    ensures { IfOk result (λ places. places ≡ map (λ rank. rank.index) ranks.now) }
+{
+    let mut places = Many::new(alloc);
+    'ranks: for rank in ranks {
+        places.push(rank.index)?;
+    }
+    Ok(places)
+}
+
+// Ranks in order, each once.
+fn in_order(alloc: Global, ranks: Many<Rank>) -> Result<BTreeSet<Rank>, OutOfMemory>
     ensures { IfOk result (λ set. set.keys ≡ in_order rank_cmp [] ranks) }
 {
     let set = ranks.into_vec().into_iter().collect(alloc)?;
     Ok(set)
+}
+
+/// The places in the shelf, in the order of the ranks, each once. Ranks that rise already are as they are.
+pub fn places_in_order(alloc: Global, ranks: Many<Rank>) -> Result<Many<usize>, OutOfMemory>
+    ensures { IfOk result (λ places. places ≡ map (λ rank. rank.index) (in_order rank_cmp [] ranks)) }
+{
+    if are_rising(ranks.as_slice()) {
+        return list_places(alloc, ranks.as_slice());
+    }
+    let set = in_order(alloc, ranks)?;
+    places_of(alloc, &set)
 }

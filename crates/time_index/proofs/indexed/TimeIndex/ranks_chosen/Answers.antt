@@ -1,9 +1,7 @@
 use Rattle.std.proofs.Common.{◌≡◌, ◌∙◌, ap, [], List}
-use Rattle.std.proofs.lemmas.Result.{IfOk-weaker}
 use Rattle.list_laws.specs.InOrder.{in_order}
 use Rattle.mseed_header.specs.declared.row.Row.{Row}
 use Rattle.dataselect.specs.Order.{rank_cmp}
-use Rattle.dataselect.specs.Chosen.{ranks_chosen}
 use Rattle.time_index.specs.Windows.{ranks_found}
 use Rattle.time_index.proofs.Found.{found_all}
 use Rattle.time_index.proofs.indexed.TimeIndex.ranks_chosen.Goals as goal
@@ -15,7 +13,4 @@ returns-in-Some g c =
     let rows = c.args.self.now.rows.items in
     let channels = c.args.self.now.channels in
     let found : c.in-Some.ranks ≡ ranks_found seen query c.deref.result.now channels query.selections = rw c.in-Some.is at c.in_ok-ranks.ensures.some in
-    let all : in_order rank_cmp [] c.in-Some.ranks ≡ ranks_chosen seen query rows =
-    ap (in_order rank_cmp []) (found ∙ ap (λ (xs : List Row). ranks_found seen query xs channels query.selections) c.deref.ensures.value)
-    ∙ found_all seen query rows channels c.args.self.now.index in
-    IfOk-weaker c.in_order.result (λ set. set.keys ≡ in_order rank_cmp [] c.in-Some.ranks) (λ set. set.keys ≡ ranks_chosen seen query rows) (λ set is. is ∙ all) c.in_order.ensures
+    ap (in_order rank_cmp []) (found ∙ ap (λ (xs : List Row). ranks_found seen query xs channels query.selections) c.deref.ensures.value) ∙ found_all seen query rows channels c.args.self.now.index

@@ -6,10 +6,10 @@ use Rattle.time_index.proofs.indexed.TimeIndexShelf.choose.Goals as goal
 
 pub pick-requires-clause-inside : goal.pick-requires-clause-inside
 pick-requires-clause-inside g c =
-    inside_chosen (g.V.Sight.seen c.args.sight.now) c.args.query.now c.as_slice.result.now c.as_slice-2.result.now
-    (c.as_slice-2.ensures ∙ c.in_ok-places.ensures ∙ ap (chosen_places (g.V.Sight.seen c.args.sight.now) c.args.query.now) (sym c.as_slice.ensures.value))
+    inside_chosen (g.V.Sight.seen c.args.sight.now) c.args.query.now c.as_slice.result.now c.in_ok-places.places
+    (c.in_ok-places.ensures ∙ ap (chosen_places (g.V.Sight.seen c.args.sight.now) c.args.query.now) (sym c.as_slice.ensures.value))
 
 pub pick-requires-clause-names : goal.pick-requires-clause-names
 pick-requires-clause-names g c =
-    names_rise (g.V.Sight.seen c.args.sight.now) c.args.query.now c.as_slice.result.now c.as_slice-2.result.now
-    (c.as_slice-2.ensures ∙ c.in_ok-places.ensures ∙ ap (chosen_places (g.V.Sight.seen c.args.sight.now) c.args.query.now) (sym c.as_slice.ensures.value))
+    names_rise (g.V.Sight.seen c.args.sight.now) c.args.query.now c.as_slice.result.now c.in_ok-places.places
+    (c.in_ok-places.ensures ∙ ap (chosen_places (g.V.Sight.seen c.args.sight.now) c.args.query.now) (sym c.as_slice.ensures.value))

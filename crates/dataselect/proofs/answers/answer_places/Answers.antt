@@ -1,6 +1,6 @@
 use Rattle.std.proofs.Common.{◌∙◌, arith}
 use Rattle.dataselect.proofs.Inside.{inside, few}
-use Rattle.dataselect.proofs.answers.answer.Goals as goal
+use Rattle.dataselect.proofs.answers.answer_places.Goals as goal
 
 pub total_size-total-requires-clause-inside : goal.total_size-total-requires-clause-inside
 total_size-total-requires-clause-inside g c = inside (g.V.Sight.seen c.args.sight.now) c.args.query.now (g.S.Shelf.rows c.args.shelf.now) _ (c.as_slice.ensures ∙ c.in_ok-places.ensures)
@@ -10,5 +10,5 @@ total_size-total-requires-clause-few g c =
     let h = few (g.V.Sight.seen c.args.sight.now) c.args.query.now (g.S.Shelf.rows c.args.shelf.now) c.as_slice.result.now (c.as_slice.ensures ∙ c.in_ok-places.ensures) in
     omega (arith, g.met.S.Shelf.few c.args.shelf.now)
 
-pub body-requires : goal.body-requires
-body-requires g c = inside (g.V.Sight.seen c.args.sight.now) c.args.query.now (g.S.Shelf.rows c.args.shelf.now) _ (c.as_slice-2.ensures ∙ c.in_ok-places.ensures)
+pub returns-clause-inside : goal.returns-clause-inside
+returns-clause-inside g c = inside (g.V.Sight.seen c.args.sight.now) c.args.query.now (g.S.Shelf.rows c.args.shelf.now) _ c.in_ok-places.ensures
