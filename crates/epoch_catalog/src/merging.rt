@@ -102,7 +102,7 @@ fn drop_same(live: &mut Vec<Line>, head: &Line)
     ensures capacity { vec_capacity live.new ≡ vec_capacity live.old }
 {
     if place_last(live, head).is_eq() {
-        let _ = live.take_last();
+        drop(live.take_last());
     }
 }
 
@@ -115,6 +115,9 @@ fn put_said(behind: &mut Vec<Line>, head: Line)
 {
     if is_said(&head) {
         behind.push_reserved(head);
+    } else {
+        // Left to the body's end, it would be checked along each kind of line.
+        drop(head);
     }
 }
 

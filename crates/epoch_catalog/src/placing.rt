@@ -9,7 +9,9 @@ ghost use Rattle.epoch_catalog.specs.Merging.{is_first};
 
 use epoch_rules::{cmp_keys, count_below, is_said, key_view};
 use epochs::Line;
-use std::mem::swap;
+use std::mem::replace;
+
+// Lines go by `drop` alone: where a body's end lets one go, the check follows each kind of line apart.
 
 // Whether the first line has a head's key.
 fn is_first(live: &[Line], head: &Line) -> bool
@@ -28,7 +30,7 @@ fn take_out(live: &mut Vec<Line>, place: usize)
     ensures len { vec_len live.new ≤ vec_len live.old }
     ensures capacity { vec_capacity live.new ≡ vec_capacity live.old }
 {
-    let _ = live.remove(place);
+    drop(live.remove(place));
 }
 
 // Puts a line in the place of another.
@@ -38,8 +40,7 @@ fn put_over(live: &mut Vec<Line>, place: usize, line: Line)
     ensures len { vec_len live.new ≤ vec_len live.old }
     ensures capacity { vec_capacity live.new ≡ vec_capacity live.old }
 {
-    let mut line = line;
-    swap(&mut live[place], &mut line);
+    drop(replace(&mut live[place], line));
 }
 
 // Puts a line before others, for which there is room.
@@ -50,14 +51,8 @@ fn put_between(live: &mut Vec<Line>, place: usize, line: Line)
     ensures len { vec_len live.new ≡ vec_len live.old + 1 }
     ensures capacity { vec_capacity live.new ≡ vec_capacity live.old }
 {
-    match live.insert(place, line) {
-        Ok(()) => (),
-        Err(_) => (),
-    }
+    drop(live.insert(place, line));
 }
-
-// Lets a deletion of nothing go.
-fn let_go(_line: Line) {}
 
 // Puts a head in the place of a line, or a deletion takes that out.
 fn put_first(live: &mut Vec<Line>, place: usize, head: Line)
@@ -70,7 +65,7 @@ fn put_first(live: &mut Vec<Line>, place: usize, head: Line)
         put_over(live, place, head);
     } else {
         take_out(live, place);
-        let_go(head);
+        drop(head);
     }
 }
 
@@ -85,7 +80,7 @@ fn put_before(live: &mut Vec<Line>, place: usize, head: Line)
     if is_said(&head) {
         put_between(live, place, head);
     } else {
-        let_go(head);
+        drop(head);
     }
 }
 
