@@ -1,13 +1,15 @@
 -- How many stations a network has, counted in one walk over their lines in order.
-use Rattle.std.proofs.Common.{◌≡◌, ℕ, ◌+◌, Bool, true, false, ◌||◌, ◌&&◌, List, [], ◌∷◌, length, map, filter, cond, Option, Some, None, refl, sym, ap, ◌∙◌, arith}
+use Rattle.std.proofs.Common.{◌≡◌, ℕ, ◌+◌, ◌≤◌, Bool, true, false, ◌||◌, ◌&&◌, List, [], ◌∷◌, ◌++◌, length, filter, cond, Option, Some, None, refl, sym, ap, subst, ◌∙◌, arith}
 use Rattle.std.specs.declared.cmp.Ordering.{Ordering}
 use Rattle.std.specs.declared.cmp.Ordering.TheVariants.{Less, Equal, Greater}
 use Rattle.std.specs.Ordering.{is_eq, is_gt, eq_by_cmp}
 use Rattle.std.specs.Cmp.Lexicographic.{nat_list_cmp_total}
 use Rattle.std.specs.Str.{bytes_eq}
-use Rattle.std.specs.List.{AllByRecursion, list_any, filter_map, cons_option}
+use Rattle.std.specs.List.{AllByRecursion, list_any, filter_map, cons_option, last_or}
+use Rattle.std.specs.Option.{option_to_list}
 use Rattle.std.specs.List.Sorted.{IsStrictlySortedBy}
 use Rattle.std.proofs.lemmas.Bool.{true≢false, and_parts}
+use Rattle.std.proofs.lemmas.List.Elements.{filter_map-append}
 use Rattle.std.proofs.lemmas.List.Kept.{IsStrictlySortedBy-filter}
 use Rattle.std.proofs.lemmas.Map.Lookups.{exact_bytes, btree_set_from_contains}
 use Rattle.std.proofs.lemmas.Slice.Eq.{bytes_eq-Decides}
@@ -23,25 +25,65 @@ use Rattle.epoch_rules.specs.Catalog.{IsCatalog}
 use Rattle.epoch_rules.specs.KeyOrder.{key_parts_of, line_cmp, text_cmp}
 use Rattle.epoch_rules.specs.Rules.{is_line_of, contains}
 use Rattle.station_text.specs.Asked.{stations_of, station_within, total_stations}
-use Rattle.station_text.specs.Counts.{is_last, each_once, with_code, counted_from, none_counted}
+use Rattle.station_text.specs.Counts.{is_last, each_once}
 use Rattle.station_text.specs.declared.lines.Counted.{Counted}
 use Rattle.station_text.specs.declared.place.Place.{Place}
 use Rattle.station_text.proofs.Places.{HasCodes, rank_is, stations_rise, then_second, same_code}
 use Rattle.station_text.proofs.PlacesFound.{rises, IsLess}
 
-one_more : (before : Counted) (code : Option (List ℕ)) (rest : List (List ℕ))
-    → (with_code before code).codes + length (each_once (with_code before code).last rest) ≡ before.codes + length (each_once before.last (cons_option code rest))
-one_more before None rest = refl
-one_more before (Some code) rest =
-    elim (is_last before.last code) as (λ b. (cond b before (record { codes = before.codes + 1; last = Some code })).codes + length (each_once (cond b before (record { codes = before.codes + 1; last = Some code })).last rest)
-    ≡ before.codes + length (cond b (each_once before.last rest) (code ∷ each_once (Some code) rest))) [
-      | true ↦ refl
+-- what is counted of some codes: how many there are, each once where equal ones stand together, and the last of them
+pub record AreCounted (counted : Counted) (codes : List (List ℕ)) : Type 0 where
+  pub many : counted.codes ≡ length (each_once None codes)
+  pub last : counted.last ≡ last_or None codes
+
+last_is : (last : Option (List ℕ)) (code : List ℕ) → is_last last code ≡ true → last ≡ Some code
+last_is None code h = absurd (true≢false (sym h))
+last_is (Some last) code h = ap Some ((bytes_eq-Decides last code).0 h)
+
+-- more codes count on from the last of those before
+once_more : (last : Option (List ℕ)) (codes more : List (List ℕ)) → length (each_once last (codes ++ more)) ≡ length (each_once last codes) + length (each_once (last_or last codes) more)
+once_more last [] more = omega arith
+once_more last (code ∷ codes) more =
+    elim (is_last last code) as (λ b. is_last last code ≡ b → length (cond b (each_once last (codes ++ more)) (code ∷ each_once (Some code) (codes ++ more)))
+    ≡ length (cond b (each_once last codes) (code ∷ each_once (Some code) codes)) + length (each_once (last_or (Some code) codes) more)) [
+      | true ↦ λ h.
+          subst (λ o. length (each_once o (codes ++ more)) ≡ length (each_once o codes) + length (each_once (last_or (Some code) codes) more)) (sym (last_is last code h)) (once_more (Some code) codes more)
+      | false ↦ λ h. let rest = once_more (Some code) codes more in omega (arith, rest)
+    ] refl
+
+last_more : (last : Option (List ℕ)) (codes more : List (List ℕ)) → last_or last (codes ++ more) ≡ last_or (last_or last codes) more
+last_more last [] more = refl
+last_more last (code ∷ codes) more = last_more (Some code) codes more
+
+-- one line more, which has a code or none
+pub counted_more : (h : LineValues → Option (List ℕ)) (es : List LineValues) (e : LineValues) (code : Option (List ℕ)) (before after : Counted) → code ≡ h e → AreCounted before (filter_map h es)
+    → after.codes ≡ before.codes + length (each_once before.last (option_to_list code)) → after.last ≡ last_or before.last (option_to_list code) → AreCounted after (filter_map h (es ++ e ∷ []))
+counted_more h es e code before after code_is counted many last =
+    let codes : List (List ℕ) = filter_map h es in
+    let more : List (List ℕ) = option_to_list code in
+    let is : filter_map h (es ++ e ∷ []) ≡ codes ++ more = filter_map-append h es (e ∷ []) ∙ ap (λ cs. codes ++ cs) (at_most_one (h e) ∙ ap option_to_list (sym code_is)) in
+    subst (AreCounted after) (sym is)
+    (record {
+      many =
+          many
+          ∙ ap (λ (o : Option (List ℕ)). before.codes + length (each_once o more)) counted.last
+          ∙ ap (λ n. n + length (each_once (last_or None codes) more)) counted.many
+          ∙ sym (once_more None codes more);
+      last = last ∙ ap (λ (o : Option (List ℕ)). last_or o more) counted.last ∙ sym (last_more None codes more);
+    })
+  where
+    at_most_one : (o : Option (List ℕ)) → cons_option o [] ≡ option_to_list o
+    at_most_one None = refl
+    at_most_one (Some code) = refl
+
+-- one more at most
+pub few_more : (last code : Option (List ℕ)) → length (each_once last (option_to_list code)) ≤ 1
+few_more last None = omega arith
+few_more last (Some code) =
+    elim (is_last last code) as (λ b. length (cond b [] (code ∷ [])) ≤ 1) [
+      | true ↦ omega arith
       | false ↦ omega arith
     ]
-
-counted_length : (h : LineValues → Option (List ℕ)) (before : Counted) (es : List LineValues) → (counted_from before (map h es)).codes ≡ before.codes + length (each_once before.last (filter_map h es))
-counted_length h before [] = omega arith
-counted_length h before (e ∷ es) = counted_length h (with_code before (h e)) es ∙ one_more before (h e) (filter_map h es)
 
 -- one code isn't behind another
 abbrev pub NotBehind : List ℕ → List ℕ → Type 0
@@ -146,18 +188,13 @@ module _ (network : List ℕ) where
         | false ↦ codes_rise outer es all.1 up.1
       ]
 
--- what is counted is how many stations the network has
+-- the codes within, each once, are the stations of the network
 pub counted_is : (live : List LineValues) (e : LineValues) (stations : List LineValues) → IsCatalog live → stations ≡ stations_of e live
-    → (counted_from none_counted (map (station_within e) stations)).codes ≡ total_stations live e
+    → length (each_once None (filter_map (station_within e) stations)) ≡ total_stations live e
 counted_is live e stations catalog are =
     let network : List ℕ = (key_parts_of e).first in
     let there : List LineValues = stations_of e live in
     let codes : List (List ℕ) = filter_map (station_within e) there in
-    ap (λ (es : List LineValues). (counted_from none_counted (map (station_within e) es)).codes) are
-    ∙ counted_length (station_within e) none_counted there
-    ∙ none_before (length (each_once None codes))
+    ap (λ (es : List LineValues). length (each_once None (filter_map (station_within e) es))) are
     ∙ ap (λ (cs : List (List ℕ)). length cs)
     (sym (put_in_order codes (codes_rise network e there (all_pass (is_in (StationsOf network)) live) (rises there (IsStrictlySortedBy-filter line_cmp (is_in (StationsOf network)) live catalog.rises)))))
-  where
-    none_before : (n : ℕ) → 0 + n ≡ n
-    none_before n = omega arith

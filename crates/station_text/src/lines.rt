@@ -1,12 +1,13 @@
 //! The lines of the text answers.
-ghost use Rattle.std.specs.Prelude.{◌≡◌, ◌^◌, ◌<◌, ◌++◌, List, map, Some, true, IfOk, OnOk};
-ghost use Rattle.std.specs.List.{AllByRecursion};
+ghost use Rattle.std.specs.Prelude.{◌≡◌, ◌+◌, ◌^◌, ◌<◌, ◌++◌, List, [], ◌∷◌, length, map, Some, None, true, IfOk, OnOk};
+ghost use Rattle.std.specs.List.{AllByRecursion, filter_map, last_or};
+ghost use Rattle.std.specs.Option.{option_to_list};
 ghost use Rattle.epochs.specs.Lines.{LineValues};
 ghost use Rattle.epochs.specs.Views.{values_of_line};
 ghost use Rattle.epochs.specs.declared.line.Line.TheVariants.{Net, Sta, Cha};
 ghost use Rattle.epoch_rules.specs.Rules.{is_epoch};
 ghost use Rattle.station_text.specs.Asked.{station_within, total_stations};
-ghost use Rattle.station_text.specs.Counts.{is_last, with_code, counted_from, none_counted};
+ghost use Rattle.station_text.specs.Counts.{is_last, each_once};
 ghost use Rattle.station_text.specs.Texts.{header_text, line_text, answer_text};
 ghost use Rattle.station_text.specs.Lines.{line_at};
 
@@ -58,7 +59,8 @@ fn is_last(last: Option<Code>, code: Code) -> bool
 // One code more, if it isn't the last that was counted.
 fn with_code(before: Counted, code: Option<Code>) -> Counted
     requires { before.codes < 2 ^ 63 }
-    ensures { result ≡ with_code before code }
+    ensures codes { result.codes ≡ before.codes + length (each_once before.last (option_to_list code)) }
+    ensures last { result.last ≡ last_or before.last (option_to_list code) }
 {
     match code {
         Some(code) => with_next(before, code),
@@ -68,7 +70,8 @@ fn with_code(before: Counted, code: Option<Code>) -> Counted
 
 fn with_next(before: Counted, code: Code) -> Counted
     requires { before.codes < 2 ^ 63 }
-    ensures { result ≡ with_code before (Some code) }
+    ensures codes { result.codes ≡ before.codes + length (each_once before.last (code ∷ [])) }
+    ensures last { result.last ≡ Some code }
 {
     if is_last(before.last, code) {
         return before;
@@ -82,7 +85,7 @@ fn with_next(before: Counted, code: Code) -> Counted
 // How many codes the stations of some lines have whose epochs are within the network's, where lines of one code
 // stand together.
 fn count_within(network: &NetworkEpoch, lines: &[Line]) -> usize
-    ensures { result ≡ (counted_from none_counted (map (station_within (values_of_line (Net network.now))) (map values_of_line lines.now))).codes }
+    ensures { result ≡ length (each_once None (filter_map (station_within (values_of_line (Net network.now))) (map values_of_line lines.now))) }
 {
     let mut counted = Counted {
         codes: 0,
