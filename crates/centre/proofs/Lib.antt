@@ -1,4 +1,5 @@
 pub mod Cases
+pub mod Counting
 pub mod DrillRows
 pub mod Finished
 pub mod Examples
@@ -15,3 +16,4 @@ pub mod ServeRows
 pub mod Settling
 pub mod Shelved
 pub mod SomeAnswer
+pub mod Written

@@ -1,5 +1,5 @@
 -- The records of an input that were passed, and those of them that a query asks for.
-use Rattle.std.proofs.Common.{◌≡◌, ◌≢◌, ℕ, ◌+◌, ◌-◌, ◌<◌, ◌≤◌, Bool, true, false, List, [], ◌∷◌, ◌++◌, length, take, drop, filter, cond, None, refl, sym, ap, ◌∙◌, arith, subst, append-nil, append_assoc, length-append, length-drop}
+use Rattle.std.proofs.Common.{◌≡◌, ◌≢◌, ℕ, ◌+◌, ◌-◌, ◌≤◌, Bool, true, false, List, [], ◌∷◌, ◌++◌, length, take, drop, filter, cond, None, refl, sym, ap, ◌∙◌, arith, subst, append-nil, append_assoc, length-append, length-drop}
 use Rattle.std.specs.declared.option.Option.{Option}
 use Rattle.std.specs.Io.KnownBytes.{Consumes, IsAtEnd}
 use Rattle.std.proofs.lemmas.Int.{ints}
@@ -25,10 +25,9 @@ use Rattle.centre.specs.declared.ending.Stop.{Stop}
 use Rattle.centre.specs.declared.ending.Stop.TheVariants.{Refused, ReadFault, WriteFault, DiskFault, PortFault, OutOfMemory}
 use Rattle.centre.specs.Answers.{epoch}
 use Rattle.centre.specs.Intake.{AreAsked, IsShelved, Passes, IsCutTo, IsRestRefused, HasTaken, IntakeStops, with_asked}
-use Rattle.centre.proofs.Inputs.{had_all, had_more}
+use Rattle.centre.proofs.Inputs.{had_all}
 use Rattle.streams.proofs.Grows.{Consumes-then}
 use Rattle.streams.specs.View.{StreamView}
-use Rattle.centre.specs.Had.{HadMore}
 
 pub shelf_begins : (query : DataQuery) (held : List Row) → held ≡ [] → IsShelved query [] [] 0 held
 shelf_begins query held none = record {
@@ -206,11 +205,3 @@ taken_none query left middle after total rest piece place fault held bytes none 
   shelved = far.shelved;
   cut = far.cut;
 }
-
--- a piece more is past the limit
-pub taken_too_much : (query : DataQuery) (left middle after : Option (List ℕ)) (total : ℕ) (rest piece : List ℕ) (place : ℕ) (fault : Option RecordFault) (held : List Row) → Consumes middle after piece → most_input < total + length piece
-    → IsTaken query left middle total rest place fault held → HadMore left most_input
-taken_too_much query left middle after total rest piece place fault held bytes long far =
-    let all : List ℕ = far.input ++ piece in
-    let size : most_input < length all = omega (arith, far.total_is, long, length-append far.input piece) in
-    had_more left after most_input all (Consumes-then left middle after far.input piece far.taken bytes) size

@@ -1,6 +1,6 @@
 -- What is taken of an input: the records that a query asks for, without those whose bytes equal an
 -- earlier one's. The other rows don't change the query's answer.
-use Rattle.std.specs.Prelude.{◌≡◌, ◌≢◌, ℕ, ◌+◌, ◌-◌, ◌≤◌, List, [], ◌++◌, length, Some, None, if◌then◌else◌, ⊤}
+use Rattle.std.specs.Prelude.{◌≡◌, ◌≢◌, ℕ, ◌+◌, ◌-◌, ◌<◌, ◌≤◌, List, [], ◌++◌, length, Some, None, if◌then◌else◌, ⊤}
 use Rattle.std.specs.List.{slice_get}
 use Rattle.std.specs.Io.KnownBytes.{Consumes, IsAtEnd}
 use Rattle.std.specs.declared.option.Option.{Option}
@@ -9,6 +9,7 @@ use Rattle.streams.specs.View.{StreamView}
 use Rattle.mseed_header.specs.Header.{RefusesRecord}
 use Rattle.mseed_header.specs.Records.{AreRecords, IsPlaced, images_of}
 use Rattle.mseed_header.specs.declared.header.RecordFault.{RecordFault}
+use Rattle.mseed_header.specs.declared.header.RecordFault.TheVariants.{Short}
 use Rattle.mseed_header.specs.declared.row.Row.{Row}
 use Rattle.dataselect.specs.declared.query.DataQuery.{DataQuery}
 use Rattle.dataselect.specs.Chosen.{asked_rows}
@@ -52,10 +53,34 @@ abbrev pub IsCutTo : List ℕ → Option RecordFault → Type 0
 IsCutTo rest None = rest ≡ []
 IsCutTo rest (Some fault) = (rest ≢ []) × RefusesRecord rest fault
 
+-- a refusal that stays, whatever bytes come behind: any but that for missing bytes
+abbrev pub IsLasting : Option RecordFault → Type 0
+IsLasting None = ⊥
+IsLasting (Some fault) = fault ≢ Short
+
 -- at the end of so many bytes the rest is refused, which begins at this offset
 abbrev pub IsRestRefused : List ℕ → ℕ → Stop → Type 0
 IsRestRefused rest total (Refused (Record at fault)) = (at ≡ total - length rest) × (rest ≢ []) × RefusesRecord rest fault
 IsRestRefused rest total _ = ⊥
+
+-- behind so many bytes the source was read to its end, within the limit
+pub record HasCounted (left after : Option (List ℕ)) (total : ℕ) : Type 0 where
+  pub bytes : List ℕ
+  pub taken : Consumes left after bytes
+  pub end : IsAtEnd after
+  pub within : total + length bytes ≤ most_input
+
+-- what was taken behind so many bytes makes them more than the limit
+pub record HasTooMany (left after : Option (List ℕ)) (total : ℕ) : Type 0 where
+  pub bytes : List ℕ
+  pub taken : Consumes left after bytes
+  pub above : most_input < total + length bytes
+
+-- why no more is taken behind so many bytes
+abbrev pub PieceStops : StreamView → StreamView → ℕ → Stop → Type 0
+PieceStops old new total ReadFault = Rose old.faults new.faults
+PieceStops old new total (Refused InputTooLong) = HasTooMany old.left new.left total
+PieceStops old new total _ = ⊥
 
 -- the source had this input and was read to its end, and the held rows are those that the query asks for
 pub record HasTaken (query : DataQuery) (left after : Option (List ℕ)) (held : List Row) : Type 0 where

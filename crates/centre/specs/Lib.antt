@@ -4,6 +4,7 @@ pub mod Given
 pub mod Had
 pub mod Intake
 pub mod Limits
+pub mod Output
 pub mod Outside
 pub mod Serves
 pub mod Settled

@@ -1,12 +1,14 @@
 //! Takes an input in pieces, and puts the records that a query asks for on a shelf. What was cut into
-//! records isn't held any longer.
-ghost use Rattle.std.specs.Prelude.{◌≡◌, ◌+◌, ◌^◌, ◌<◌, ◌≤◌, ℕ, List, [], ◌++◌, length, drop, OnOk, IfOk, IfErr, Err};
+//! records isn't held any longer, and pieces behind one in which a record is refused aren't held at all.
+ghost use Rattle.std.specs.Prelude.{◌≡◌, ◌+◌, ◌^◌, ◌<◌, ◌≤◌, ◌↔◌, ℕ, IsTrue, List, [], ◌++◌, length, take, drop, OnOk, IfOk, IfErr, Err};
+ghost use Rattle.std.specs.Io.KnownBytes.{Consumes, IsAtEnd};
 ghost use Rattle.mseed_header.specs.Header.{IsRecord};
 ghost use Rattle.mseed_header.specs.Records.{IsPlaced};
 ghost use Rattle.mseed_header.specs.declared.row.Row.{Row};
 ghost use Rattle.centre.specs.Answers.{epoch};
 ghost use Rattle.streams.specs.Effects.{OnlyTakes};
-ghost use Rattle.centre.specs.Intake.{with_asked, Passes, IsCutTo, IsRestRefused, HasTaken, IntakeStops};
+ghost use Rattle.centre.specs.Intake.{with_asked, Passes, IsCutTo, IsLasting, IsRestRefused, HasCounted, PieceStops, HasTaken, IntakeStops};
+ghost use Rattle.centre.specs.Limits.{most_input};
 
 use crate::MAX_INPUT;
 use crate::ending::{Refusal, Stop};
@@ -194,9 +196,57 @@ fn end_of(intake: &Intake, total: usize) -> Result<(), Stop>
     }
 }
 
+// Whether a refusal stays, whatever bytes come behind: each does but that for bytes that are missing.
+fn is_lasting(fault: Option<RecordFault>) -> bool
+    ensures { IsTrue result ↔ IsLasting fault }
+{
+    match fault {
+        None | Some(RecordFault::Short) => false,
+        Some(_) => true,
+    }
+}
+
+// Takes the next piece behind `total` bytes, and says how many bytes it has: none at the end.
+fn next_piece<S: Source>(source: &mut S, piece: &mut [u8], total: usize) -> Result<usize, Stop>
+    requires some { 0 < length piece.old }
+    requires within { total ≤ most_input }
+    ensures bound { IfOk result (λ count. count ≤ length piece.new) }
+    ensures bytes { IfOk result (λ count. Consumes (S.view source.old).left (S.view source.new).left (take count piece.new)) }
+    ensures within { IfOk result (λ count. total + count ≤ most_input) }
+    ensures end { IfOk result (λ count. count ≡ 0 → IsAtEnd (S.view source.new).left) }
+    ensures stops { IfErr result (PieceStops (S.view source.old) (S.view source.new) total) }
+    ensures takes { OnlyTakes (S.view source.old) (S.view source.new) (result ≡ Err Stop.ReadFault) }
+{
+    let Ok(count) = source.take(piece) else {
+        return Err(Stop::ReadFault);
+    };
+    if MAX_INPUT - total < count {
+        return Err(Stop::Refused(Refusal::InputTooLong));
+    }
+    Ok(count)
+}
+
+// Takes all that is left behind `total` bytes, and keeps none of it.
+fn count_rest<S: Source>(source: &mut S, piece: &mut [u8], total: usize) -> Result<(), Stop>
+    requires some { 0 < length piece.old }
+    requires within { total ≤ most_input }
+    ensures counted { OnOk result (HasCounted (S.view source.old).left (S.view source.new).left total) }
+    ensures stops { IfErr result (PieceStops (S.view source.old) (S.view source.new) total) }
+    ensures takes { OnlyTakes (S.view source.old) (S.view source.new) (result ≡ Err Stop.ReadFault) }
+{
+    let mut counted = total;
+    'pieces: loop {
+        let count = next_piece(source, piece, counted)?;
+        if count == 0 {
+            return Ok(());
+        }
+        counted += count;
+    }
+}
+
 /// Takes all that the source has, up to [`MAX_INPUT`] bytes, and puts those of its records on an empty shelf
 /// that the query asks for, in order. A record that is refused is told of once the input is read to its
-/// end.
+/// end; the pieces until then are counted and not kept, unless it is refused for missing bytes.
 pub fn take_records<S: Source, H: Shelf>(
     alloc: Global,
     query: &DataQuery,
@@ -215,17 +265,14 @@ pub fn take_records<S: Source, H: Shelf>(
     };
     let mut total = 0;
     let mut piece = [0; PIECE];
-    'pieces: loop {
-        let Ok(count) = source.take(&mut piece) else {
-            return Err(Stop::ReadFault);
-        };
+    'pieces: while !is_lasting(intake.fault) {
+        let count = next_piece(source, &mut piece, total)?;
         if count == 0 {
             return end_of(&intake, total);
-        }
-        if MAX_INPUT - total < count {
-            return Err(Stop::Refused(Refusal::InputTooLong));
         }
         total += count;
         intake.take(alloc, query, shelf, &piece[..count])?;
     }
+    count_rest(source, &mut piece, total)?;
+    end_of(&intake, total)
 }

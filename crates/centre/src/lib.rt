@@ -22,6 +22,7 @@ mod help;
 mod intake;
 mod law;
 mod objects;
+mod output;
 mod outside;
 mod running;
 mod telling;

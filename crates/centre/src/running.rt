@@ -13,6 +13,7 @@ ghost use Rattle.centre.specs.Talks.{TalkEnding, stop_for_talk};
 use crate::ending::{Refusal, Stop};
 use crate::help::text_shown;
 use crate::intake::take_records;
+use crate::output::put_rows;
 use crate::telling::{out_of_memory, tell_stop};
 use crate::words::select_query;
 use archive_log::{Archive, FoundFault};
@@ -24,7 +25,7 @@ use command_words::{
     CommandWords, DrillArguments, InitArguments, SelectArguments, ServeArguments, TalkArguments,
     command_in,
 };
-use dataselect::{All, DataRefusal, answer};
+use dataselect::{All, DataRefusal, answer_places};
 use disk_model::Disk;
 use exact_time::OutOfMemory;
 use http_digest::Secret;
@@ -67,11 +68,11 @@ fn select<S: Source, K: Sink>(
         Ok(()) => (),
         Err(untaken) => return Err(untaken),
     }
-    let body = match answer(alloc, &shelf, &All, &query, arguments.limit) {
-        Ok(body) => body,
+    let places = match answer_places(&shelf, &All, &query, arguments.limit) {
+        Ok(places) => places,
         Err(refusal) => return Err(stop_for_data(arguments.limit, refusal)),
     };
-    match put_all(sink, body.as_slice()) {
+    match put_rows(sink, &shelf, places.as_slice()) {
         Ok(()) => Ok(()),
         Err(_) => Err(Stop::WriteFault),
     }

@@ -408,6 +408,36 @@ fn refuses_records_and_faults(rt: HostRuntime) -> Result<(), Fail> {
     Ok(())
 }
 
+// A record in mid-stream that is refused as soon as its first 388 bytes are there, since it names a blockette behind its
+// end: it is told of once all pieces behind it were read, of which none changes that, and a read that fails comes first.
+#[test]
+fn reads_on_behind_a_refused_record(rt: HostRuntime) -> Result<(), Fail> {
+    let mut input = Bytes::new(rt.alloc());
+    input.extend(&anmo_record())?;
+    input.extend(&changed(anmo_record(), 50, &[0x02, 0x00]))?;
+    for second in 0..4 {
+        input.extend(&anmo_record_at(second))?;
+    }
+    check(
+        &rt,
+        &USUAL,
+        input.as_slice(),
+        2,
+        b"",
+        "centre: record at offset 512: Chain\n",
+    )?;
+    let ninth_read = Faults { source: 9, sink: 0 };
+    check_with(
+        &rt,
+        ninth_read,
+        &USUAL,
+        input.as_slice(),
+        5,
+        b"",
+        "centre: read fault\n",
+    )
+}
+
 // Runs the usual query over the record into the sink, and compares the status and what the sink got.
 fn check_sink(
     rt: &(impl Abort + AllocGlobal + Threads + Wait + Sync),
