@@ -169,6 +169,78 @@ fn a_silent_client_is_a_fault_of_its_link(rt: HostRuntime) -> Result<(), Fail> {
     Ok(())
 }
 
+// Sends a byte, and closes while the answer isn't read yet, so that the system resets the connection.
+fn reset<R: Net<Listener = TcpListener, Stream = TcpStream> + Clock>(
+    rt: &R,
+    address: SocketAddr,
+) -> Result<usize, Fail> {
+    let mut stream = connect(rt, address)?;
+    stream.write_all(b"?")?;
+    let mut answer = [0; 2];
+    Ok(stream.peek(&mut answer)?)
+}
+
+// Answers each of ten bytes at most until the link ends: how many it answered, and the faults of the link.
+fn answer_and_listen<P: Port>(port: &mut P) -> (u64, u64) {
+    let Ok(Some(mut link)) = port.accept() else {
+        return (0, 0);
+    };
+    let mut taken: u64 = 0;
+    let mut byte = [0];
+    'bytes: for _ in 0..10u32 {
+        if link.take(&mut byte) != Ok(1) || link.put(b"!") != Ok(1) {
+            break 'bytes;
+        }
+        taken = taken.saturating_add(1);
+    }
+    let faults = link.faults();
+    port.give_back(link, &[]);
+    (taken, faults)
+}
+
+#[test]
+fn a_reset_is_a_fault_of_its_link(rt: HostRuntime) -> Result<(), Fail> {
+    let shared = &rt;
+    let address = free_address(shared)?;
+    let mut port = TcpPort::new(shared, Some(address), Some(2));
+    let (served, unread) = join(
+        shared,
+        || answer_and_listen(&mut port),
+        || reset(shared, address),
+    );
+    assert_eq!(rt; served, (1, 1));
+    assert_eq!(rt; unread?, 1);
+    let (served, answers) = join(shared, || serve(&mut port, 1), || ask(shared, address, 1));
+    assert_eq!(rt; served, (1, 0));
+    assert_eq!(rt; answers?, 1);
+    Ok(())
+}
+
+// Sends more than is taken, and closes.
+fn say_much<R: Net<Listener = TcpListener, Stream = TcpStream> + Clock>(
+    rt: &R,
+    address: SocketAddr,
+) -> Result<(), Fail> {
+    let mut stream = connect(rt, address)?;
+    stream.write_all(&[b'?'; 1000])?;
+    Ok(())
+}
+
+// What the client sent and nobody took is lost with its link alone.
+#[test]
+fn a_client_closes_with_unread_bytes(rt: HostRuntime) -> Result<(), Fail> {
+    let shared = &rt;
+    let address = free_address(shared)?;
+    let mut port = TcpPort::new(shared, Some(address), Some(2));
+    let (served, said) = join(shared, || serve(&mut port, 1), || say_much(shared, address));
+    assert_eq!(rt; served.1, 0);
+    said?;
+    let (served, answers) = join(shared, || serve(&mut port, 1), || ask(shared, address, 1));
+    assert_eq!(rt; served, (1, 0));
+    assert_eq!(rt; answers?, 1);
+    Ok(())
+}
+
 // Where somebody else listens, the port fails, and counts it.
 #[test]
 fn an_address_in_use_is_a_fault_of_the_port(rt: HostRuntime) -> Result<(), Fail> {
