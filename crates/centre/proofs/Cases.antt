@@ -18,7 +18,6 @@ use Rattle.centre.proofs.DrillRows.{drill_clock, drill_ports, drill_kept, drill_
 use Rattle.centre.proofs.Rows.{same_sink}
 use Rattle.centre.proofs.ServeRows.{serve_disk, serve_port, serve_kept, serve_clock, none_served}
 use Rattle.centre_serve.specs.Whole.{OneRose}
-use Rattle.link_ports.specs.Ports.{PortView}
 use Rattle.centre_drill.specs.Drill.{HoldsHistory}
 use Rattle.centre_drill.specs.History.{made_history}
 use Rattle.centre.specs.Drills.{drill_text}

@@ -1,7 +1,6 @@
 -- The rows of `drill`.
-use Rattle.std.proofs.Common.{◌≡◌, ◌⊎◌, inl, inr, ℕ, List, Option, Result, Ok, Err, refl, sym, subst, arith}
+use Rattle.std.proofs.Common.{◌≡◌, ◌⊎◌, inl, inr, Result, Ok, Err, refl, sym, subst, arith}
 use Rattle.disk_model.specs.View.{DiskView, WhereTold}
-use Rattle.exact_time.specs.declared.moment.Moment.{Moment}
 use Rattle.centre_drill.specs.Drill.{HoldsHistory}
 use Rattle.centre_drill.specs.History.{made_history}
 use Rattle.centre_drill.specs.declared.ending.DrillStop.{DrillStop}

@@ -1,5 +1,5 @@
 -- The file determines one answer of `serve`.
-use Rattle.std.proofs.Common.{◌≡◌, ◌⊎◌, inl, inr, ℕ, List, [], Result, Ok, Err, refl, sym, ap, ◌∙◌}
+use Rattle.std.proofs.Common.{◌≡◌, inl, inr, ℕ, List, [], Result, Ok, Err, refl, sym, ap, ◌∙◌}
 use Rattle.archive_entry.specs.declared.entry.Entry.{Entry}
 use Rattle.archive_log.specs.Opening.{OpensWith, IsStartFault}
 use Rattle.archive_log.specs.declared.fault.StartFault.{StartFault}

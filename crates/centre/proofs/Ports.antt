@@ -1,5 +1,5 @@
 -- The ports of workers that don't serve.
-use Rattle.std.proofs.Common.{◌≡◌, ◌∙◌, ◌∷◌, List, [], map, refl, ap, subst, Option, None, Result}
+use Rattle.std.proofs.Common.{◌≡◌, ◌∙◌, List, map, ap, subst, Option, None, Result}
 use Rattle.exact_time.specs.declared.moment.Moment.{Moment}
 use Rattle.http_digest.specs.declared.secret.Secret.{Secret}
 use Rattle.disk_model.specs.View.{DiskView}

@@ -1,9 +1,7 @@
 -- The rows of `serve`.
-use Rattle.std.proofs.Common.{◌≡◌, ◌⊎◌, inl, inr, ℕ, List, [], Option, Some, Result, Ok, Err, refl, sym, subst, arith}
+use Rattle.std.proofs.Common.{◌≡◌, inl, inr, ℕ, Result, Ok, Err, refl, sym, subst, arith}
 use Rattle.disk_model.specs.View.{DiskView}
-use Rattle.disk_model.specs.Effects.{WritesNothing}
 use Rattle.exact_time.specs.Causes.{Rose}
-use Rattle.exact_time.specs.declared.moment.Moment.{Moment}
 use Rattle.http_digest.specs.declared.secret.Secret.{Secret}
 use Rattle.archive_log.specs.declared.fault.StartFault.TheVariants as start
 use Rattle.centre_serve.specs.Service.{Site, site, IsRefused, RanShort}
@@ -15,7 +13,7 @@ use Rattle.centre.specs.declared.ending.Refusal.TheVariants.{UnknownCommand, Val
 use Rattle.centre.specs.declared.ending.Stop.{Stop}
 use Rattle.centre.specs.declared.ending.Stop.TheVariants.{Refused, ReadFault, WriteFault, DiskFault, PortFault, OutOfMemory}
 use Rattle.centre.specs.Given.{World}
-use Rattle.centre.specs.Serves.{IsServeAnswer, IsServe, ServeEnding, stop_for_serve}
+use Rattle.centre.specs.Serves.{IsServe, ServeEnding, stop_for_serve}
 use Rattle.centre.specs.Status.{status_of_run}
 use Rattle.centre.specs.Table.{ToldFor}
 

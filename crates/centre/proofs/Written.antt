@@ -1,8 +1,7 @@
 -- Bytes of which a front is written, and the rest waits.
-use Rattle.std.proofs.Common.{◌≡◌, ℕ, ◌+◌, ◌≤◌, List, [], ◌++◌, refl, sym, ap, ◌∙◌, arith, None, Some, Ok, Err, Result, IsErr, true≢false, append_assoc}
+use Rattle.std.proofs.Common.{◌≡◌, ℕ, List, [], ◌++◌, refl, sym, ap, ◌∙◌, arith, None, Some, Ok, Err, Result, IsErr, true≢false, append_assoc}
 use Rattle.std.specs.declared.option.Option.{Option}
 use Rattle.std.proofs.lemmas.List.{append-nil}
-use Rattle.exact_time.specs.Causes.{Rose, HasCause}
 use Rattle.streams.specs.Effects.{Grew, HasPut, PutsAll, WritesPart}
 use Rattle.streams.specs.View.{StreamView}
 use Rattle.streams.proofs.Grows.{Grew-then}

@@ -8,7 +8,7 @@ use Rattle.mseed_header.specs.declared.row.Row.{Row}
 use Rattle.dataselect.specs.DataBody.{images_at, image_of}
 use Rattle.dataselect.proofs.Bodies.{images_more}
 use Rattle.streams.specs.Effects.{PutsAll}
-use Rattle.centre.proofs.Written.{Waits, waits_more, waits_cut, waits_ended}
+use Rattle.centre.proofs.Written.{waits_more, waits_cut, waits_ended}
 use Rattle.centre.proofs.output.put_rows.Goals as goal
 
 -- the bytes at the places behind one
