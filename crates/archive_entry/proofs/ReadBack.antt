@@ -1,5 +1,5 @@
 -- What is spelled reads back, and fits a journal's frame.
-use Rattle.std.proofs.Common.{◌≡◌, ℕ, ◌+◌, ◌≤◌, List, ◌++◌, ◌∷◌, length, ap, arith}
+use Rattle.std.proofs.Common.{◌≡◌, ◌+◌, ◌≤◌, ◌++◌, ◌∷◌, length, ap, arith}
 use Rattle.std.proofs.lemmas.List.{length-append}
 use Rattle.archive_entry.specs.Payload.{entry_or, entry_of_payload}
 use Rattle.archive_entry.specs.Spelling.{number, micros, name, kind_byte, sized, spelling, IsEntry}

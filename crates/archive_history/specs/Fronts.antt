@@ -1,5 +1,5 @@
 -- Beginnings of one history.
-use Rattle.std.specs.Prelude.{ℕ, ◌<◌, List, length}
+use Rattle.std.specs.Prelude.{◌<◌, List, length}
 use mathlib.Core.List.{IsPrefix}
 use Rattle.archive_entry.specs.declared.entry.Entry.{Entry}
 

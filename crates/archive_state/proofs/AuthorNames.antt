@@ -1,9 +1,7 @@
 -- Who may post has a user's name.
-use Rattle.std.proofs.Common.{◌≡◌, ◌&&◌, ◌∙◌, ℕ, Bool, true, false, cond, List, [], ◌∷◌, ◌++◌, filter, length, Option, None, Some, Result, Ok, Err, refl, sym, ap, subst}
-use Rattle.std.specs.Prelude.{IsTrue, MatchResult, find}
+use Rattle.std.proofs.Common.{◌≡◌, ℕ, Bool, true, false, cond, List, [], ◌∷◌, ◌++◌, filter, None, Some, Result, Ok, Err, refl, subst}
+use Rattle.std.specs.Prelude.{MatchResult, find}
 use Rattle.std.specs.List.{AllByRecursion, flat_map}
-use Rattle.std.specs.Str.{bytes_eq}
-use Rattle.std.proofs.lemmas.Bool.{and_parts}
 use Rattle.std.proofs.lemmas.Slice.Eq.{bytes_eq-Decides}
 use Rattle.list_laws.proofs.Keys.{all_in_order}
 use Rattle.epochs.specs.Fields.{Value, code, words, time, end, number, optional, patterns, roles, is_user_name}
@@ -18,7 +16,7 @@ use Rattle.epochs.specs.declared.kinds.LineKind.TheVariants.{Net, Sta, Cha, Evt,
 use Rattle.epochs.proofs.SpelledValues.{line_is_spellable}
 use Rattle.epoch_rules.specs.Catalog.{is_user}
 use Rattle.epoch_rules.specs.KeyOrder.{line_cmp, key_parts_of}
-use Rattle.epoch_rules.specs.LiveLines.{is_said, is_replaced, last_lines, live_lines}
+use Rattle.epoch_rules.specs.LiveLines.{is_said, is_replaced, last_lines}
 use Rattle.archive_entry.specs.Bodies.{revision_of, revision_of-only}
 use Rattle.archive_entry.specs.declared.entry.Entry.{Entry}
 use Rattle.archive_entry.specs.declared.entry.Kind.{Kind}

@@ -1,5 +1,5 @@
 -- Records that were counted are those of the body.
-use Rattle.std.proofs.Common.{◌≡◌, ℕ, true, List, Result, Ok, Err, sym, ap, ◌∙◌}
+use Rattle.std.proofs.Common.{◌≡◌, ℕ, true, List, Result, Err, sym, ap, ◌∙◌}
 use Rattle.std.specs.Prelude.{is_none}
 use Rattle.mseed_header.specs.declared.header.RecordFault.{RecordFault}
 use Rattle.archive_entry.specs.Batches.{batch_of, count_in, fault_in, batch_fault}

@@ -1,6 +1,6 @@
 -- The next entry of a lawful history has a spelling.
-use Rattle.std.proofs.Common.{◌≡◌, inl, inr, ◌==◌, ◌&&◌, ◌∙◌, ℕ, ℤ, ◌+◌, ◌≤◌, ◌<◌, ◌^◌, Bool, true, List, [], ◌∷◌, ◌++◌, length, pos, refl, sym, ap, subst, arith, append_assoc, append-nil, length-append}
-use Rattle.std.specs.Prelude.{nat_le, int_le, int_lt}
+use Rattle.std.proofs.Common.{◌≡◌, inl, inr, ◌&&◌, ℕ, ◌≤◌, ◌<◌, ◌^◌, true, List, [], ◌∷◌, ◌++◌, length, sym, subst, arith, append_assoc, append-nil, length-append}
+use Rattle.std.specs.Prelude.{nat_le}
 use Rattle.std.specs.Int.{w64}
 use Rattle.std.specs.Int.RustNames.{FitsSigned}
 use Rattle.std.proofs.lemmas.Bool.{and_parts}
@@ -13,7 +13,7 @@ use Rattle.epochs.specs.Fields.{is_user_name}
 use Rattle.archive_entry.specs.Spelling.{IsEntry}
 use Rattle.archive_entry.specs.declared.entry.Entry.{Entry}
 use Rattle.archive_state.specs.History.{bytes_of}
-use Rattle.archive_state.specs.Lawful.{full, is_fit, is_first, founds, ha1_behind, is_founding, is_later, is_next, goes_on, is_lawful}
+use Rattle.archive_state.specs.Lawful.{full, is_founding, is_later, is_next, goes_on, is_lawful}
 use Rattle.archive_state.specs.Verdicts.{command_of}
 use Rattle.archive_state.proofs.Absorbs.{next_fits}
 use Rattle.archive_state.proofs.Accepts.{accepted, first_seq, later_parts, next_by, next_number}

@@ -1,10 +1,10 @@
 -- Where a sight sees all rows of a name, and they are joined as a shelf joins them, its spans are the shelf's.
-use Rattle.std.proofs.Common.{◌≡◌, ℕ, ◌-◌, ◌^◌, ◌==◌, ℤ, pos, ◌<ℤ◌, ◌≤ℤ◌, Bool, true, false, not, ◌&&◌, ◌||◌, cond, List, Some, None, map, refl, sym, ap, ◌∙◌, arith}
+use Rattle.std.proofs.Common.{◌≡◌, ◌-◌, ◌^◌, ◌==◌, ℤ, pos, ◌<ℤ◌, Bool, true, false, not, ◌&&◌, cond, List, Some, None, map, refl, sym, ap, ◌∙◌, arith}
 use Rattle.std.specs.Int.{int_min, int_max}
 use Rattle.std.specs.List.{AllByRecursion}
 use Rattle.std.proofs.lemmas.Bool.{and_parts}
 use Rattle.std.proofs.lemmas.Bool.Decides.{nat_tests}
-use Rattle.std.proofs.lemmas.Int.{ints, clamps}
+use Rattle.std.proofs.lemmas.Int.{ints}
 use Rattle.list_laws.specs.Breaks.{made_of_each}
 use Rattle.exact_time.specs.SampleTime.{floor_at}
 use Rattle.channel_globs.specs.declared.nslc.Nslc.{Nslc}
@@ -22,7 +22,7 @@ use Rattle.query_parameters.specs.declared.avail.QualitySet.{QualitySet}
 use Rattle.query_words.specs.declared.avail.AvailQuery.{AvailQuery}
 use Rattle.availability.specs.declared.span.TimeSpan.{TimeSpan}
 use Rattle.availability.specs.Channels.{is_asked_of, spans_named, has_all, merges_as_shelves, time_span_of}
-use Rattle.availability.specs.Spans.{merging_of, has_quality, passes, last_moment, span_at, longer, spans_in}
+use Rattle.availability.specs.Spans.{merging_of, has_quality, passes, span_at, longer}
 use Rattle.availability.proofs.Lasts.{last_moment_before}
 
 not_true : (b : Bool) → not b ≡ true → b ≡ false

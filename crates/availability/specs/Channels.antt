@@ -1,5 +1,5 @@
 -- The spans of channel behind channel: those of all rows, made of the rows of one name and then of the next.
-use Rattle.std.specs.Prelude.{◌≡◌, ◌^◌, ◌-◌, ◌==◌, pos, Bool, true, false, not, ◌&&◌, List, [], Option, Some}
+use Rattle.std.specs.Prelude.{◌≡◌, ◌^◌, ◌-◌, ◌==◌, pos, Bool, false, not, ◌&&◌, List, [], Some}
 use Rattle.std.specs.Int.{int_min}
 use Rattle.std.specs.List.{AllByRecursion, flat_map}
 use Rattle.list_laws.specs.InOrder.{in_order}

@@ -1,9 +1,9 @@
 -- Worked examples of whole command lines.
-use Rattle.std.proofs.Common.{◌≡◌, refl, List, [], ◌∷◌, Some, None, codes}
+use Rattle.std.proofs.Common.{◌≡◌, refl, [], ◌∷◌, Some, None, codes}
 use Rattle.clap.proofs.OnLiterals.{clap_on_literals}
 use Rattle.command_words.specs.Commands.{InitWords, TalkWords, ServeWords, DrillWords, init, talk, serve, drill, show, command_of}
 use Rattle.command_words.specs.Layouts.{app_for}
-use Rattle.command_words.specs.declared.name.CommandName.TheVariants.{Select, Init, Talk}
+use Rattle.command_words.specs.declared.name.CommandName.TheVariants.{Talk}
 use Rattle.command_words.specs.declared.name.Shown.TheVariants.{Help, Version, HelpOf}
 
 abbrev op_words : InitWords

@@ -1,5 +1,5 @@
 -- What the words give under a name.
-use Rattle.std.specs.Prelude.{◌≡◌, ◌≢◌, ℕ, ◌&&◌, List, [], ◌∷◌, nat_le, if◌then◌else◌, Option, None, Some}
+use Rattle.std.specs.Prelude.{◌≡◌, ◌≢◌, ℕ, List, [], ◌∷◌, if◌then◌else◌, Option, None, Some}
 use Rattle.query_parameters.specs.Gets.{text_or}
 use Rattle.query_parameters.specs.Values.{whole_of}
 use Rattle.archive_state.specs.Limits.{is_limit}

@@ -1,5 +1,5 @@
 -- Answers about stations and events rest on the public lines alone.
-use Rattle.std.proofs.Common.{◌≡◌, ◌∙◌, ◌&&◌, ◌||◌, ℕ, Bool, true, false, List, [], ◌∷◌, ◌++◌, filter, refl, sym, ap, Result, codes}
+use Rattle.std.proofs.Common.{◌≡◌, ◌∙◌, ◌&&◌, ◌||◌, ℕ, Bool, true, false, List, [], ◌∷◌, ◌++◌, filter, refl, sym, ap}
 use Rattle.std.specs.Prelude.{decimal}
 use Rattle.std.specs.List.{list_any, filter_map, flat_map}
 use Rattle.std.specs.Prelude.{length, map}
@@ -14,7 +14,6 @@ use Rattle.epoch_rules.specs.KeyOrder.{key_parts_of, text_cmp}
 use Rattle.epoch_rules.specs.Rules.{is_line_of, contains}
 use Rattle.epoch_catalog.specs.declared.families.Family.TheVariants.{StationsOf, ChannelsOf}
 use Rattle.epoch_catalog.specs.Families.{is_in}
-use Rattle.exact_time.specs.declared.error.TextRefusal.{TextRefusal}
 use Rattle.dataselect.specs.declared.query.Selection.{Selection}
 use Rattle.query_parameters.specs.declared.area.Area.{Area}
 use Rattle.query_parameters.specs.declared.level.Level.{Level}
@@ -24,7 +23,7 @@ use Rattle.query_words.specs.declared.event.EventQuery.{EventQuery}
 use Rattle.line_columns.specs.Answers.{text_or_empty}
 use Rattle.line_columns.specs.Texts.{barred, column_text, line_feed}
 use Rattle.station_text.specs.Answers.{text_answer_of as station_answer_of}
-use Rattle.station_text.specs.Asked.{stations_of, channels_of, has_channel, has_station, is_line_asked, is_asked_at, asked_lines, total_stations, is_eligible, selects_network, selects_station, selects_channel, asks_network, asks_station, asks_channel, is_inner_channel, is_inner_station, takes_all_channels, takes_all_stations, station_within, is_wanted, names_network, names_station}
+use Rattle.station_text.specs.Asked.{stations_of, channels_of, has_channel, has_station, is_asked_at, asked_lines, total_stations, is_eligible, selects_network, selects_station, selects_channel, is_inner_channel, is_inner_station, takes_all_channels, takes_all_stations, station_within, is_wanted, names_network, names_station}
 use Rattle.station_text.specs.Windows.{line_passes}
 use Rattle.station_text.specs.Texts.{answer_text, line_text, further_columns, header_text}
 use Rattle.event_text.specs.Events.{is_event_asked, asks_for, event_of}

@@ -1,5 +1,5 @@
 -- A filter through which all that a second one takes passes.
-use Rattle.std.proofs.Common.{◌≡◌, ◌∙◌, ◌&&◌, Bool, true, false, cond, List, [], ◌∷◌, filter, refl, sym, ap}
+use Rattle.std.proofs.Common.{◌≡◌, ◌∙◌, ◌&&◌, Bool, true, false, cond, List, [], ◌∷◌, filter, refl, ap}
 
 pub left_holds : (a b : Bool) → (a && b) ≡ true → a ≡ true
 left_holds true b h = refl

@@ -1,10 +1,7 @@
 -- The user whom credentials name is live.
-use Rattle.std.proofs.Common.{◌≡◌, ◌∙◌, ◌&&◌, Bool, true, false, cond, List, [], ◌∷◌, Option, None, Some, Result, Ok, Err, refl, sym, ap, find}
+use Rattle.std.proofs.Common.{◌≡◌, ◌∙◌, Bool, true, false, cond, List, [], ◌∷◌, Option, None, Some, Result, Ok, Err, refl, sym, ap, find}
 use Rattle.std.specs.Option.{option_map}
-use Rattle.std.specs.Str.{bytes_eq}
-use Rattle.std.proofs.lemmas.Bool.{and_parts}
 use Rattle.std.proofs.lemmas.Slice.Eq.{bytes_eq-Decides}
-use Rattle.epochs.specs.declared.kinds.LineKind.TheVariants.{Usr}
 use Rattle.epochs.specs.declared.parts.Roles.{Roles}
 use Rattle.epochs.specs.Kinds.{Text}
 use Rattle.epochs.specs.Lines.{LineValues}
@@ -17,7 +14,7 @@ use Rattle.http_digest.specs.declared.authorization.Credentials.{Credentials}
 use Rattle.http_digest.specs.declared.secret.Secret.{Secret}
 use Rattle.access_digest.specs.Who.{ha1_in, ha1_of, is_fresh, denial_by, denial_of, named, who_by, who_of, authorized}
 use Rattle.access_digest.specs.declared.denial.Denial.{Denial}
-use Rattle.access_digest.specs.declared.denial.Denial.TheVariants.{Stale, UnknownUser}
+use Rattle.access_digest.specs.declared.denial.Denial.TheVariants.{Stale}
 
 -- of a choice without a denial
 no_denial : (b : Bool) (d : Option Denial) → cond b d (Some Stale) ≡ None → d ≡ None

@@ -1,5 +1,5 @@
 -- What a posted command may add to a history.
-use Rattle.std.specs.Prelude.{ℕ, ◌||◌, Bool, false, List, [], ◌∷◌, Option, None, Some, is_some, Result, Ok, Err, nat_le, ◌&&◌, length}
+use Rattle.std.specs.Prelude.{◌||◌, Bool, false, List, [], ◌∷◌, Option, None, Some, is_some, Result, Ok, Err, nat_le, ◌&&◌, length}
 use Rattle.exact_time.specs.Clock.{is_clock_moment}
 use Rattle.exact_time.specs.declared.moment.Moment.{Moment}
 use Rattle.epochs.specs.Kinds.{Text}

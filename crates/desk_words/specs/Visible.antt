@@ -1,5 +1,5 @@
 -- What of a history a caller may see.
-use Rattle.std.specs.Prelude.{Bool, true, false, ◌||◌, List, filter, Option}
+use Rattle.std.specs.Prelude.{Bool, true, ◌||◌, List, filter, Option}
 use Rattle.std.specs.List.{list_any}
 use Rattle.std.specs.Str.{bytes_eq}
 use Rattle.epochs.specs.declared.kinds.LineKind.TheVariants.{Net, Sta, Cha, Evt}

@@ -1,4 +1,4 @@
-use Rattle.std.proofs.Common.{arith, Ok, Err}
+use Rattle.std.proofs.Common.{arith}
 use Rattle.archive_entry.proofs.Readings.{batch_is, batch_told}
 use Rattle.archive_entry.proofs.bodies.batch_records.Goals as goal
 

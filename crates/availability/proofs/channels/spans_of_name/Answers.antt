@@ -1,4 +1,4 @@
-use Rattle.std.proofs.Common.{rules, ◌≡◌, ◌∙◌, true, List, IfOk, sym, subst}
+use Rattle.std.proofs.Common.{rules, ◌≡◌, true, List, IfOk, subst}
 use Rattle.availability.specs.Channels.{merges_as_shelves}
 use Rattle.availability.specs.declared.span.TimeSpan.{TimeSpan}
 use Rattle.availability.proofs.Told.{as_shelves, told}

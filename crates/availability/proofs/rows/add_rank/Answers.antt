@@ -1,8 +1,6 @@
-use Rattle.std.proofs.Common.{rules, ◌≤◌, List, length, refl, sym, ◌∙◌}
-use Rattle.mseed_header.specs.declared.row.Row.{Row}
-use Rattle.dataselect.proofs.SpanRanks.{none_there}
+use Rattle.std.proofs.Common.{refl, sym, ◌∙◌}
 use Rattle.availability.specs.Spans.{passes}
-use Rattle.availability.proofs.Ranked.{rank_same, rank_in, rank_out, rank_none}
+use Rattle.availability.proofs.Ranked.{rank_same, rank_in}
 use Rattle.availability.proofs.rows.add_rank.Goals as goal
 
 pub returns-in_ok-insert : goal.returns-in_ok-insert

@@ -4,7 +4,6 @@ use Rattle.epochs.specs.declared.line.User.{User}
 use Rattle.epochs.specs.Values.{user_line}
 use Rattle.epochs.specs.Kinds.{Text}
 use Rattle.http_digest.specs.declared.authorization.Credentials.{Credentials}
-use Rattle.access_digest.specs.Who.{who_of}
 use Rattle.desk_words.specs.Outcomes.{as_asker, asked_as}
 use Rattle.desk_words.proofs.Users.{named_user}
 use Rattle.desk_words.proofs.outcomes.asker.Goals as goal
