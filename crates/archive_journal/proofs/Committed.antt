@@ -3,7 +3,7 @@ use Rattle.std.proofs.Common.{◌≡◌, ℕ, ◌+◌, ◌-◌, List, [], ◌∷
 use Rattle.std.proofs.lemmas.List.{take_all}
 use Rattle.std.proofs.lemmas.Bool.{false≢true}
 use Rattle.exact_time.specs.declared.error.Failed.{Failed}
-use Rattle.disk_model.specs.View.{DiskView, WhereTold, IsHonest, DiskRun}
+use Rattle.disk_model.specs.View.{DiskView, WhereTold, IsHonest, DiskRun, file_of}
 use Rattle.disk_model.proofs.Moments.{weakened}
 use Rattle.archive_journal.specs.Frames.{front_of, IsSized, Holds, HoldsWithOrWithout}
 use Rattle.archive_journal.specs.Journal.{Opened, IsCommit, first_payloads, gate_of, added_to, HasGatesAt, IsJournalWithOrWithout, IsOpenJournal}
@@ -27,7 +27,7 @@ never_value P (Err e) failed = tt
 abbrev pub opened_as : {D : Type 0} → (D → DiskView) → D → ℕ → List ℕ → ℕ → Bool → Opened D
 opened_as view disk faults offsets spare stopped = record {
   disk = disk;
-  payloads = first_payloads (length offsets) (view disk).content;
+  payloads = first_payloads (length offsets) (file_of (view disk));
   count = length offsets;
   spare = spare;
   stopped = stopped;
@@ -47,7 +47,7 @@ module _ {D : Type 0} (E : Type 0) (view : D → DiskView) (disk disk' : D) (fau
     later = call.later;
     cause = λ _. call.cause refl;
     told = λ told.
-        let ps = first_payloads (length offsets) (view disk).content in
+        let ps = first_payloads (length offsets) (file_of (view disk)) in
         let settled = kept.settled told on in
         let frame = call.told told in
         let now = frame.now ps settled.journal settled.placed.end_is in
@@ -59,7 +59,7 @@ module _ {D : Type 0} (E : Type 0) (view : D → DiskView) (disk disk' : D) (fau
           durable = never_ok _ result failed;
           written = never_ok _ result failed;
           last = never_value _ result failed;
-          payloads = on_err _ result (first_payloads-more ps p new.content (length offsets) (length-placed ps offsets end settled.placed) (now new.content reads));
+          payloads = on_err _ result (first_payloads-more ps p (file_of new) (length offsets) (length-placed ps offsets end settled.placed) (now (file_of new) reads));
         };
   }
 
@@ -71,18 +71,18 @@ module _ {D : Type 0} (E : Type 0) (view : D → DiskView) (disk disk' : D) (fau
     later = call.later;
     cause = λ failed. absurd (false≢true failed.0);
     told = λ told.
-        let ps = first_payloads (length offsets) (view disk).content in
+        let ps = first_payloads (length offsets) (file_of (view disk)) in
         let settled = kept.settled told on in
         let frame = call.told told in
         let new = view disk' in
-        let found = found_added (view disk) ps offsets end settled p new.content offsets' sized frame.written pushed in
-        let qs = first_payloads (length offsets') new.content in record {
+        let found = found_added (view disk) ps offsets end settled p (file_of new) offsets' sized frame.written pushed in
+        let qs = first_payloads (length offsets') (file_of new) in record {
           any_moment = λ _. weakened (view disk) new (IsJournalWithOrWithout ps p) (HoldsWithOrWithout ps p) (holds_either ps p) (frame.any_moment ps settled.journal settled.placed.end_is);
           left = λ _ image left. holds_either ps p image (frame.now ps settled.journal settled.placed.end_is image left);
-          added = added_payloads (view disk) ps offsets end settled p new.content offsets' sized frame.written pushed;
-          durable = λ image left. subst (Holds qs) (sym (frame.durable image left)) (found_holds new.content offsets' (end + (length p + 5)) found);
-          written = frame.written ∙ ap (λ (gate : ℕ). added_to (view disk).content gate p) (next_gate_is ps offsets end settled.placed);
-          last = is ∙ found_count new.content offsets' (end + (length p + 5)) found;
+          added = added_payloads (view disk) ps offsets end settled p (file_of new) offsets' sized frame.written pushed;
+          durable = λ image left. subst (Holds qs) (sym (frame.durable image left)) (found_holds (file_of new) offsets' (end + (length p + 5)) found);
+          written = frame.written ∙ ap (λ (gate : ℕ). added_to (file_of (view disk)) gate p) (next_gate_is ps offsets end settled.placed);
+          last = is ∙ found_count (file_of new) offsets' (end + (length p + 5)) found;
           payloads = tt;
         };
   }

@@ -4,7 +4,7 @@ use Rattle.std.proofs.lemmas.List.{take_at, take_all}
 use Rattle.std.proofs.lemmas.Bool.{false≢true}
 use Rattle.exact_time.specs.Causes.{Rose}
 use Rattle.disk_model.specs.Disk.{Leaves}
-use Rattle.disk_model.specs.View.{DiskView, WhereTold, IsHonest, IsSynced, AlwaysLeaves}
+use Rattle.disk_model.specs.View.{DiskView, WhereTold, IsHonest, IsSynced, AlwaysLeaves, is_told, file_of}
 use Rattle.disk_model.specs.Effects.{OnlyReads}
 use Rattle.disk_model.proofs.Moments.{at_rest_now}
 use Rattle.archive_journal.specs.Frames.{magic, open_gate, body_of, reading_of, holding, front_of, IsSized, IsJournal, Holds, HoldsWithOrWithout}
@@ -37,9 +37,9 @@ first_payloads-more ps p file count is (inr journal) = ap (λ r. take count (pay
 pub holds_either : (ps : List (List ℕ)) (p : List ℕ) → Leaves (IsJournalWithOrWithout ps p) (HoldsWithOrWithout ps p)
 holds_either ps p file = ⊎_elim (λ journal. inl (reading_of-journal ps file journal)) (λ journal. inr (reading_of-journal (ps ++ p ∷ []) file journal))
 
-module _ (view : DiskView) (faults : ℕ) (offsets : List ℕ) (end : ℕ) (stopped : Bool) (kept : IsOpenJournal view faults offsets end stopped) (told : view.tells ≡ true) where
+module _ (view : DiskView) (faults : ℕ) (offsets : List ℕ) (end : ℕ) (stopped : Bool) (kept : IsOpenJournal view faults offsets end stopped) (told : is_told view ≡ true) where
   abbrev ps : List (List ℕ)
-  ps = first_payloads (length offsets) view.content
+  ps = first_payloads (length offsets) (file_of view)
 
   placed_if : (b : Bool) → stopped ≡ b → HasGatesAt ps offsets end
   placed_if false is = (kept.settled told is).placed
@@ -53,20 +53,20 @@ module _ (view : DiskView) (faults : ℕ) (offsets : List ℕ) (end : ℕ) (stop
 
   -- while no commit failed, every image holds the payloads
   pub images_running : stopped ≡ false → Leaves view.may_leave (Holds ps)
-  images_running on image left = let s = kept.settled told on in subst (Holds ps) (sym (s.synced image left)) (reading_of-journal ps view.content s.journal)
+  images_running on image left = let s = kept.settled told on in subst (Holds ps) (sym (s.synced image left)) (reading_of-journal ps (file_of view) s.journal)
 
   pub images_halted : stopped ≡ true → (hand : List ℕ) × Leaves view.may_leave (HoldsWithOrWithout ps hand)
   images_halted off = let h = kept.halted told off in (h.hand, λ image left. holds_either ps h.hand image (h.either image left))
 
   -- what a read gives begins with the payloads
-  pub file_now : view.may_leave view.content → (rest : List ℕ) × (view.content ≡ front_of ps ++ rest)
+  pub file_now : view.may_leave (file_of view) → (rest : List ℕ) × (file_of view ≡ front_of ps ++ rest)
   file_now reads = file_if stopped refl
     where
-      file_if : (b : Bool) → stopped ≡ b → (rest : List ℕ) × (view.content ≡ front_of ps ++ rest)
+      file_if : (b : Bool) → stopped ≡ b → (rest : List ℕ) × (file_of view ≡ front_of ps ++ rest)
       file_if false is = let j = (kept.settled told is).journal in (j.gate ∷ j.rest, j.file_is)
       file_if true is =
           let h = kept.halted told is in
-          elim (h.either view.content reads) [
+          elim (h.either (file_of view) reads) [
             | inl j ↦ (j.gate ∷ j.rest, j.file_is)
             | inr j ↦ (open_gate ∷ body_of h.hand ++ (j.gate ∷ j.rest), j.file_is ∙ front_of-push ps h.hand (j.gate ∷ j.rest))
           ]
@@ -76,8 +76,8 @@ module _ (view : DiskView) (faults : ℕ) (offsets : List ℕ) (end : ℕ) (stop
   images_at_rest honest on payload = at_rest_now view honest (HoldsWithOrWithout ps payload) (λ image left. inl (images_running on image left))
 
 -- what an open journal keeps, over a disk that tells
-pub keeps_now : {D : Type 0} → (view : D → DiskView) (disk : D) (faults : ℕ) (offsets : List ℕ) (end spare : ℕ) (stopped : Bool) → IsHonest (view disk) → IsOpenJournal (view disk) faults offsets end stopped → (view disk).tells ≡ true
-    → Keeps view (record { disk = disk; payloads = first_payloads (length offsets) (view disk).content; count = length offsets; spare = spare; stopped = stopped; faults = faults })
+pub keeps_now : {D : Type 0} → (view : D → DiskView) (disk : D) (faults : ℕ) (offsets : List ℕ) (end spare : ℕ) (stopped : Bool) → IsHonest (view disk) → IsOpenJournal (view disk) faults offsets end stopped → is_told (view disk) ≡ true
+    → Keeps view (record { disk = disk; payloads = first_payloads (length offsets) (file_of (view disk)); count = length offsets; spare = spare; stopped = stopped; faults = faults })
 keeps_now view disk faults offsets end spare stopped honest kept told = record {
   counted = count_now (view disk) faults offsets end stopped kept told;
   running = images_running (view disk) faults offsets end stopped kept told;
@@ -109,12 +109,12 @@ found_empty file offsets is none = record {
 }
 
 -- a journal to which a frame was added
-pub found_added : (view : DiskView) (ps : List (List ℕ)) (offsets : List ℕ) (end : ℕ) → IsOnDisk view ps offsets end → (p content' offsets' : List ℕ) → IsSized p → content' ≡ added_to view.content end p → offsets' ≡ offsets ++ end ∷ []
+pub found_added : (view : DiskView) (ps : List (List ℕ)) (offsets : List ℕ) (end : ℕ) → IsOnDisk view ps offsets end → (p content' offsets' : List ℕ) → IsSized p → content' ≡ added_to (file_of view) end p → offsets' ≡ offsets ++ end ∷ []
     → IsFound content' offsets' (end + (length p + 5))
 found_added view ps offsets end settled p content' offsets' sized is pushed =
     let placed = settled.placed in record {
       payloads = ps ++ p ∷ [];
-      journal = subst (IsJournal (ps ++ p ∷ [])) (sym is) (added ps view.content settled.journal end placed.end_is p sized);
+      journal = subst (IsJournal (ps ++ p ∷ [])) (sym is) (added ps (file_of view) settled.journal end placed.end_is p sized);
       placed = record {
         sized = all_push IsSized ps p placed.sized sized;
         offsets_are = pushed ∙ (λ i. placed.offsets_are i ++ placed.end_is i ∷ []) ∙ sym (gates_from-push ps p);
@@ -123,17 +123,17 @@ found_added view ps offsets end settled p content' offsets' sized is pushed =
     }
 
 -- has that payload behind the others
-pub added_payloads : (view : DiskView) (ps : List (List ℕ)) (offsets : List ℕ) (end : ℕ) → IsOnDisk view ps offsets end → (p content' offsets' : List ℕ) → IsSized p → content' ≡ added_to view.content end p → offsets' ≡ offsets ++ end ∷ []
+pub added_payloads : (view : DiskView) (ps : List (List ℕ)) (offsets : List ℕ) (end : ℕ) → IsOnDisk view ps offsets end → (p content' offsets' : List ℕ) → IsSized p → content' ≡ added_to (file_of view) end p → offsets' ≡ offsets ++ end ∷ []
     → first_payloads (length offsets') content' ≡ ps ++ p ∷ []
 unfolding found_added
 added_payloads view ps offsets end settled p content' offsets' sized is pushed = found_payloads content' offsets' (end + (length p + 5)) (found_added view ps offsets end settled p content' offsets' sized is pushed)
 
 module _ (view : DiskView) (faults : ℕ) (offsets : List ℕ) (end : ℕ) where
   -- a journal that runs: its frames were found, and it is synced
-  pub kept_running : end < 2 ^ 63 → WhereTold view (IsFound view.content offsets end) → WhereTold view (IsSynced view) → faults ≤ view.faults → IsOpenJournal view faults offsets end false
+  pub kept_running : end < 2 ^ 63 → WhereTold view (IsFound (file_of view) offsets end) → WhereTold view (IsSynced view) → faults ≤ view.faults → IsOpenJournal view faults offsets end false
   kept_running fits found synced later = record {
     fits = fits;
-    settled = λ told on. let f = found told in subst (λ (ps : List (List ℕ)). IsOnDisk view ps offsets end) (sym (found_payloads view.content offsets end f)) (record { placed = f.placed; journal = f.journal; synced = synced told });
+    settled = λ told on. let f = found told in subst (λ (ps : List (List ℕ)). IsOnDisk view ps offsets end) (sym (found_payloads (file_of view) offsets end f)) (record { placed = f.placed; journal = f.journal; synced = synced told });
     halted = λ told off. absurd (false≢true off);
     later = later;
     cause = λ off. absurd (false≢true off);
@@ -146,7 +146,7 @@ module _ (view : DiskView) (faults : ℕ) (offsets : List ℕ) (end : ℕ) where
     fits = fits;
     settled = λ told on. absurd (false≢true (sym on));
     halted = λ told off.
-        let same = first_payloads-more ps p view.content (length offsets) (length-placed ps offsets end (placed told)) (either told view.content (honest told).reads) in
+        let same = first_payloads-more ps p (file_of view) (length offsets) (length-placed ps offsets end (placed told)) (either told (file_of view) (honest told).reads) in
         subst (λ (qs : List (List ℕ)). IsHalted view qs offsets end) (sym same) (record { placed = placed told; hand = p; either = either told });
     later = later;
     cause = λ off. cause;
@@ -157,7 +157,7 @@ pub kept_read : (old new : DiskView) (faults : ℕ) (offsets : List ℕ) (end : 
     → IsOpenJournal old faults offsets end stopped → IsOpenJournal new faults offsets end stopped
 kept_read old new faults offsets end stopped Failed run is =
     let payloads = λ (file : List ℕ). first_payloads (length offsets) file in
-    let read = λ (told : new.tells ≡ true). run.told (sym run.tells ∙ told) in record {
+    let read = λ (told : is_told new ≡ true). run.told (sym run.tells ∙ told) in record {
       fits = is.fits;
       settled = λ told on.
           let was = is.settled (sym run.tells ∙ told) on in

@@ -3,7 +3,7 @@ use Rattle.std.specs.Prelude.{◌≡◌, ◌⊎◌, ℕ, ◌+◌, ◌-◌, ◌^�
 use Rattle.std.specs.List.{AllByRecursion}
 use Rattle.exact_time.specs.Causes.{Rose}
 use Rattle.disk_model.specs.Disk.{overwritten, Leaves}
-use Rattle.disk_model.specs.View.{DiskView, WhereTold, IsSynced, AlwaysLeaves}
+use Rattle.disk_model.specs.View.{DiskView, WhereTold, IsSynced, AlwaysLeaves, file_of}
 use Rattle.disk_model.specs.Effects.{OnlyReads}
 use Rattle.archive_journal.specs.Frames.{Reading, holding, reading_of, open_gate, closed_gate, body_of, front_of, IsSized, IsJournal, Holds, HoldsWithOrWithout}
 
@@ -62,7 +62,7 @@ pub record IsCommit {D E : Type 0} (view : D → DiskView) (payload : List ℕ) 
   pub left : old.stopped ≡ false → Leaves (view new.disk).may_leave (HoldsWithOrWithout old.payloads payload)
   pub added : OnOk result (new.payloads ≡ old.payloads ++ payload ∷ [])
   pub durable : OnOk result (Leaves (view new.disk).may_leave (Holds new.payloads))
-  pub written : OnOk result ((view new.disk).content ≡ added_to (view old.disk).content (gate_of old.payloads (old.count + 1)) payload)
+  pub written : OnOk result (file_of (view new.disk) ≡ added_to (file_of (view old.disk)) (gate_of old.payloads (old.count + 1)) payload)
   pub last : IfOk result (λ n. n ≡ length new.payloads)
   pub payloads : OnErr result (new.payloads ≡ old.payloads)
 
@@ -93,7 +93,7 @@ IsJournalWithOrWithout payloads payload file = IsJournal payloads file ⊎ IsJou
 -- a read gives a journal of these payloads, and all of it is on the disk
 pub record IsOnDisk (view : DiskView) (payloads : List (List ℕ)) (offsets : List ℕ) (end : ℕ) : Type 0 where
   pub placed : HasGatesAt payloads offsets end
-  pub journal : IsJournal payloads view.content
+  pub journal : IsJournal payloads (file_of view)
   pub synced : IsSynced view
 
 -- each image is a journal of these payloads, or of these and the one that was in hand when a commit failed
@@ -105,7 +105,7 @@ pub record IsHalted (view : DiskView) (payloads : List (List ℕ)) (offsets : Li
 -- what the type of a journal keeps of its disk, which had failed so often when it was opened
 pub record IsOpenJournal (view : DiskView) (faults : ℕ) (offsets : List ℕ) (end : ℕ) (stopped : Bool) : Type 0 where
   pub fits : end < 2 ^ 63
-  pub settled : WhereTold view (stopped ≡ false → IsOnDisk view (first_payloads (length offsets) view.content) offsets end)
-  pub halted : WhereTold view (stopped ≡ true → IsHalted view (first_payloads (length offsets) view.content) offsets end)
+  pub settled : WhereTold view (stopped ≡ false → IsOnDisk view (first_payloads (length offsets) (file_of view)) offsets end)
+  pub halted : WhereTold view (stopped ≡ true → IsHalted view (first_payloads (length offsets) (file_of view)) offsets end)
   pub later : faults ≤ view.faults
   pub cause : stopped ≡ true → Rose faults view.faults

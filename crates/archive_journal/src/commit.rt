@@ -1,7 +1,7 @@
 //! The writes of a journal.
 ghost use Rattle.std.specs.Prelude.{◌+◌, ◌^◌, ◌<◌, ◌++◌, ◌∷◌, [], length, OnOk};
 ghost use Rattle.disk_model.specs.Disk.{Torn};
-ghost use Rattle.disk_model.specs.View.{WhereTold, IsSynced, DiskRun};
+ghost use Rattle.disk_model.specs.View.{WhereTold, IsSynced, DiskRun, file_of};
 ghost use Rattle.disk_model.specs.Effects.{WritesThrough};
 ghost use Rattle.archive_journal.specs.Frames.{magic, open_gate, closed_gate, body_of, IsSized};
 ghost use Rattle.archive_journal.specs.Writing.{MakesEmpty, AddsFrame};
@@ -29,7 +29,7 @@ pub(crate) fn begin<D: Disk>(disk: &mut D) -> Result<(), InitFault>
 
 // Writes a frame behind its closed gate, with the next closed gate, and syncs.
 fn bring<D: Disk>(disk: &mut D, gate: u64, frame: &Frame) -> Result<(), Failed>
-    requires inside { WhereTold (D.view disk.old) (gate < length (D.view disk.old).content) }
+    requires inside { WhereTold (D.view disk.old) (gate < length (file_of (D.view disk.old))) }
     requires fits { gate < 2 ^ 63 }
     requires synced { WhereTold (D.view disk.old) (IsSynced (D.view disk.old)) }
     ensures sized { IsSized frame.now }
@@ -41,7 +41,7 @@ fn bring<D: Disk>(disk: &mut D, gate: u64, frame: &Frame) -> Result<(), Failed>
 
 // Opens a gate, and syncs.
 fn open<D: Disk>(disk: &mut D, gate: u64) -> Result<(), Failed>
-    requires inside { WhereTold (D.view disk.old) (gate < length (D.view disk.old).content) }
+    requires inside { WhereTold (D.view disk.old) (gate < length (file_of (D.view disk.old))) }
     requires synced { WhereTold (D.view disk.old) (IsSynced (D.view disk.old)) }
     ensures { WritesThrough gate (open_gate ∷ []) (D.view disk.old) (D.view disk.new) result }
 {
@@ -53,7 +53,7 @@ fn open<D: Disk>(disk: &mut D, gate: u64) -> Result<(), Failed>
 // disk; so at every moment every image is a journal of the payloads of before, or of these and the
 // frame's.
 pub(crate) fn add_frame<D: Disk>(disk: &mut D, gate: u64, frame: &Frame) -> Result<(), Failed>
-    requires inside { WhereTold (D.view disk.old) (gate < length (D.view disk.old).content) }
+    requires inside { WhereTold (D.view disk.old) (gate < length (file_of (D.view disk.old))) }
     requires fits { gate < 2 ^ 63 }
     requires synced { WhereTold (D.view disk.old) (IsSynced (D.view disk.old)) }
     ensures sized { IsSized frame.now }

@@ -1,7 +1,7 @@
 //! An open journal.
 ghost use Rattle.std.specs.Prelude.{◌≡◌, ◌⊎◌, ◌+◌, ◌-◌, ◌^◌, ◌<◌, ◌≤◌, [], true, false, length, take, drop, Some, slice_get, IfOk, IfErr, OnOk, OnErr, IsErr, IsErrOf};
 ghost use Rattle.exact_time.specs.Causes.{Rose};
-ghost use Rattle.disk_model.specs.View.{WhereTold, DiskRun};
+ghost use Rattle.disk_model.specs.View.{WhereTold, DiskRun, file_of};
 ghost use Rattle.disk_model.specs.Effects.{OnlyReads, WritesNothing};
 ghost use Rattle.archive_journal.specs.Frames.{reading_of, Holds};
 
@@ -32,13 +32,14 @@ pub struct Journal<D: Disk> {
 impl<D: Disk> Model for Journal<D> {
     ghost use Rattle.std.specs.Prelude.{◌-◌, length};
     ghost use Rattle.std.specs.Vec.{vec_len, vec_capacity};
+    ghost use Rattle.disk_model.specs.View.{file_of};
     ghost use Rattle.archive_journal.specs.Journal.{Opened, IsOpenJournal, first_payloads};
 
     ghost Value = { Opened D };
 
     ghost view = { λ j. record {
       disk = j.disk;
-      payloads = first_payloads (length j.offsets.items) (D.view j.disk).content;
+      payloads = first_payloads (length j.offsets.items) (file_of (D.view j.disk));
       count = length j.offsets.items;
       spare = vec_capacity j.offsets - vec_len j.offsets;
       stopped = j.stopped;
@@ -59,7 +60,7 @@ impl<D: Disk> Journal<D> {
     /// memory.
     pub fn init(alloc: Global, disk: D) -> Result<Journal<D>, (D, InitFault)>
         ensures disk { MakesEmpty (D.view disk) (D.view (disk_in result)) (outcome_in result) }
-        ensures payloads { WhereTold (D.view disk) (IfOk result (λ j. (j.payloads ≡ []) × Holds [] (D.view j.disk).content)) }
+        ensures payloads { WhereTold (D.view disk) (IfOk result (λ j. (j.payloads ≡ []) × Holds [] (file_of (D.view j.disk)))) }
         ensures opened { IfOk result (λ j. (j.count ≡ 0) × (j.stopped ≡ false) × (j.faults ≡ (D.view j.disk).faults)) }
     {
         Journal::init_with(Room::none(alloc), disk)
@@ -68,7 +69,7 @@ impl<D: Disk> Journal<D> {
     /// The same, with room for as many payloads as were reserved before the file was touched.
     pub fn init_with(room: Room, mut disk: D) -> Result<Journal<D>, (D, InitFault)>
         ensures disk { MakesEmpty (D.view disk) (D.view (disk_in result)) (outcome_in result) }
-        ensures payloads { WhereTold (D.view disk) (IfOk result (λ j. (j.payloads ≡ []) × Holds [] (D.view j.disk).content)) }
+        ensures payloads { WhereTold (D.view disk) (IfOk result (λ j. (j.payloads ≡ []) × Holds [] (file_of (D.view j.disk)))) }
         ensures opened { IfOk result (λ j. (j.count ≡ 0) × (j.stopped ≡ false) × (j.faults ≡ (D.view j.disk).faults)) }
         ensures room { IfOk result (λ j. j.spare ≡ room) }
     {
@@ -91,12 +92,12 @@ impl<D: Disk> Journal<D> {
     /// first closed gate, and a gate that is missing, or is open before a length of 0, over the limit or
     /// past the end of the file, is `Damaged` at its offset.
     pub fn recover(alloc: Global, mut disk: D) -> Result<Journal<D>, (D, RecoverFault)>
-        ensures payloads { WhereTold (D.view disk) (IfOk result (λ j. Holds j.payloads (D.view disk).content)) }
+        ensures payloads { WhereTold (D.view disk) (IfOk result (λ j. Holds j.payloads (file_of (D.view disk)))) }
         // Unless the disk failed, each image is what a read gives, also where that is no journal.
-        ensures synced { WhereTold (D.view disk) (IsSyncedUnlessFailed (D.view (disk_in result)) (D.view disk).content (outcome_in result)) }
+        ensures synced { WhereTold (D.view disk) (IsSyncedUnlessFailed (D.view (disk_in result)) (file_of (D.view disk)) (outcome_in result)) }
         ensures opened { IfOk result (λ j. (j.stopped ≡ false) × (j.faults ≡ (D.view j.disk).faults)) }
 
-        ensures fault { WhereTold (D.view disk) (IfErr (outcome_in result) (ExplainsRecover (reading_of (D.view disk).content))) }
+        ensures fault { WhereTold (D.view disk) (IfErr (outcome_in result) (ExplainsRecover (reading_of (file_of (D.view disk))))) }
         // At every moment of the call, every image is one that was there before.
         ensures disk { WritesNothing (D.view disk) (D.view (disk_in result)) (IsErrOf (outcome_in result) RecoverFault.DiskFault) }
     {
@@ -238,7 +239,7 @@ fn read_bytes<D: Disk>(
     len: usize,
     buffer: &mut Vec<u8>,
 ) -> Result<(), ReadFault>
-    ensures bytes { WhereTold (D.view disk.old) (OnOk result (buffer.new.items ≡ take len (drop at (D.view disk.old).content))) }
+    ensures bytes { WhereTold (D.view disk.old) (OnOk result (buffer.new.items ≡ take len (drop at (file_of (D.view disk.old))))) }
     ensures read { OnlyReads (D.view disk.old) (D.view disk.new) (IsErrOf result ReadFault.DiskFault) }
 {
     buffer.resize(len, 0)?;

@@ -1,6 +1,6 @@
 //! Finds the frames of a file that a crash may have left, by reading alone.
 ghost use Rattle.std.specs.Prelude.{◌≡◌, ◌+◌, ◌^◌, ◌<◌, ◌≤◌, ℕ, List, length, take, drop, IfOk, IfErr, IfSome, MatchResult, IsErrOf};
-ghost use Rattle.disk_model.specs.View.{WhereTold};
+ghost use Rattle.disk_model.specs.View.{WhereTold, file_of};
 ghost use Rattle.disk_model.specs.Effects.{OnlyReads, WritesNothing};
 ghost use Rattle.archive_journal.specs.Recovery.{IsNext, IsFound, Explains, HasMagic, IsSyncedUnlessFailed};
 
@@ -46,7 +46,7 @@ fn next_gate(head: &[u8], at: u64, len: u64) -> Result<Option<u64>, RecoverFault
 // Reads what stands at a gate.
 fn read_gate<D: Disk>(disk: &mut D, at: u64, len: u64) -> Result<Option<u64>, RecoverFault>
     requires { at < 2 ^ 63 }
-    ensures next { WhereTold (D.view disk.old) (len ≡ length (D.view disk.old).content → IsNext (drop at (D.view disk.old).content) at result) }
+    ensures next { WhereTold (D.view disk.old) (len ≡ length (file_of (D.view disk.old)) → IsNext (drop at (file_of (D.view disk.old))) at result) }
     ensures bound { IfOk result (λ next. IfSome next (λ next. (at < next) × (next ≤ len))) }
     ensures read { OnlyReads (D.view disk.old) (D.view disk.new) (IsErrOf result RecoverFault.DiskFault) }
 {
@@ -57,7 +57,7 @@ fn read_gate<D: Disk>(disk: &mut D, at: u64, len: u64) -> Result<Option<u64>, Re
 
 // Tests the magic, and that there is a gate behind it.
 fn check_magic<D: Disk>(disk: &mut D) -> Result<(), RecoverFault>
-    ensures magic { WhereTold (D.view disk.old) (MatchResult result (λ _. HasMagic (D.view disk.old).content) (Explains (D.view disk.old).content)) }
+    ensures magic { WhereTold (D.view disk.old) (MatchResult result (λ _. HasMagic (file_of (D.view disk.old))) (Explains (file_of (D.view disk.old)))) }
     ensures read { OnlyReads (D.view disk.old) (D.view disk.new) (IsErrOf result RecoverFault.DiskFault) }
 {
     let mut head = [0; 17];
@@ -70,11 +70,11 @@ fn check_magic<D: Disk>(disk: &mut D) -> Result<(), RecoverFault>
 
 // Goes from gate to gate up to the first that is closed, in a file of `len` bytes with the magic.
 fn walk<D: Disk>(alloc: Global, disk: &mut D, len: u64) -> Result<Found, RecoverFault>
-    requires len { (len < 2 ^ 63) × WhereTold (D.view disk.old) (len ≡ length (D.view disk.old).content) }
-    requires magic { WhereTold (D.view disk.old) (HasMagic (D.view disk.old).content) }
+    requires len { (len < 2 ^ 63) × WhereTold (D.view disk.old) (len ≡ length (file_of (D.view disk.old))) }
+    requires magic { WhereTold (D.view disk.old) (HasMagic (file_of (D.view disk.old))) }
     ensures bound { IfOk result (λ found. found.end < 2 ^ 63) }
     ensures found { WhereTold (D.view disk.old)
-        (MatchResult result (λ found. IsFound (D.view disk.old).content found.offsets.items found.end) (Explains (D.view disk.old).content)) }
+        (MatchResult result (λ found. IsFound (file_of (D.view disk.old)) found.offsets.items found.end) (Explains (file_of (D.view disk.old)))) }
     ensures read { OnlyReads (D.view disk.old) (D.view disk.new) (IsErrOf result RecoverFault.DiskFault) }
 {
     let mut offsets = Vec::new(alloc);
@@ -91,8 +91,8 @@ fn walk<D: Disk>(alloc: Global, disk: &mut D, len: u64) -> Result<Found, Recover
 pub(crate) fn find_frames<D: Disk>(alloc: Global, disk: &mut D) -> Result<Found, RecoverFault>
     ensures bound { IfOk result (λ found. found.end < 2 ^ 63) }
     ensures found { WhereTold (D.view disk.old)
-        (MatchResult result (λ found. IsFound (D.view disk.old).content found.offsets.items found.end) (Explains (D.view disk.old).content)) }
-    ensures synced { WhereTold (D.view disk.old) (IsSyncedUnlessFailed (D.view disk.new) (D.view disk.old).content result) }
+        (MatchResult result (λ found. IsFound (file_of (D.view disk.old)) found.offsets.items found.end) (Explains (file_of (D.view disk.old)))) }
+    ensures synced { WhereTold (D.view disk.old) (IsSyncedUnlessFailed (D.view disk.new) (file_of (D.view disk.old)) result) }
     ensures disk { WritesNothing (D.view disk.old) (D.view disk.new) (IsErrOf result RecoverFault.DiskFault) }
 {
     disk.sync()?;

@@ -1,6 +1,6 @@
 //! Opens an archive from a disk, by reading alone.
 ghost use Rattle.std.specs.Prelude.{ℕ, List, ◌≡◌, ◌≢◌, ◌++◌, ◌∷◌, [], ◌-◌, ◌≤◌, false, None, Some, length, slice_get, IfOk, IfErr, IfSome, IsErrOf, MatchOption};
-ghost use Rattle.disk_model.specs.View.{WhereTold};
+ghost use Rattle.disk_model.specs.View.{WhereTold, file_of};
 ghost use Rattle.disk_model.specs.Effects.{OnlyReads, WritesNothing};
 ghost use Rattle.archive_journal.specs.Journal.{WasRead};
 ghost use Rattle.archive_entry.specs.Spelling.{Spells, spelling};
@@ -30,11 +30,11 @@ impl<D: Disk> Archive<D> {
         disk: D,
     ) -> Result<(Archive<D>, Many<Entry>, Admit), (D, StartFault)>
         ensures started { IfOk result (λ opened. IsStarted D.view opened.0 opened.1 opened.2) }
-        ensures history { WhereTold (D.view disk) (IfOk result (λ opened. IsHistoryOf (D.view disk).content opened.1)) }
+        ensures history { WhereTold (D.view disk) (IfOk result (λ opened. IsHistoryOf (file_of (D.view disk)) opened.1)) }
         ensures since { IfOk result (λ opened. (D.view disk).faults ≤ opened.0.faults) }
-        ensures fault { WhereTold (D.view disk) (IfErr (outcome_of result) (ExplainsStart (D.view disk).content)) }
+        ensures fault { WhereTold (D.view disk) (IfErr (outcome_of result) (ExplainsStart (file_of (D.view disk)))) }
         // Unless the disk failed, each image is what a read gives, also where that is no archive.
-        ensures synced { WhereTold (D.view disk) (IsSyncedUnlessFailed (D.view (disk_of result)) (D.view disk).content (outcome_of result)) }
+        ensures synced { WhereTold (D.view disk) (IsSyncedUnlessFailed (D.view (disk_of result)) (file_of (D.view disk)) (outcome_of result)) }
         // At every moment of the call, every image is one that was there before.
         ensures disk { WritesNothing (D.view disk) (D.view (disk_of result)) (IsErrOf (outcome_of result) StartFault.DiskFault) }
     {

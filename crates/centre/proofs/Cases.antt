@@ -1,5 +1,5 @@
 -- What each row of the table says of the status that it has.
-use Rattle.std.proofs.Common.{◌≡◌, ◌⊎◌, inl, inr, ℕ, List, [], Option, None, Some, Result, Ok, Err, refl, sym, subst, arith, append-nil}
+use Rattle.std.proofs.Common.{◌≡◌, ◌⊎◌, inl, inr, ℕ, List, [], Option, None, Some, is_some, unwrap_or, true, Result, Ok, Err, refl, sym, subst, arith, append-nil}
 use Rattle.exact_time.specs.Causes.{Rose}
 use Rattle.disk_model.specs.View.{DiskView, WhereTold}
 use Rattle.centre.specs.declared.ending.Refusal.{Refusal}
@@ -31,6 +31,11 @@ some_input : (left : Option (List ℕ)) → (input : List ℕ) × Had left input
 some_input None = ([], tt)
 some_input (Some xs) = (xs, refl)
 
+-- what it holds, where it tells, is what it had
+had_told : (content : Option (List ℕ)) (bytes : List ℕ) → (is_some content ≡ true → unwrap_or content [] ≡ bytes) → Had content bytes
+had_told None bytes is = tt
+had_told (Some xs) bytes is = is refl
+
 abbrev of_input : List ℕ → Given
 of_input input = record { input = input; file = [] }
 
@@ -51,7 +56,7 @@ written view secret (Some (select w)) before after done row =
 written view secret (Some (init w)) before after done row = record {
   given = record { input = []; file = [] };
   body = [];
-  had = λ told. (row.disk.told told).empty;
+  had = had_told (view before.disk).content [] (λ told. (row.disk.told told).empty);
   answer = (refl, refl);
   output = grew_nothing before.streams.sink.written after.streams.sink.written (λ i. (row.others i).streams.sink.written);
 }
@@ -60,7 +65,7 @@ written view secret (Some (serve w)) before after done row = serve_kept view sec
 written view secret (Some (drill w)) before after done row = record {
   given = of_input [];
   body = drill_text w.records;
-  had = λ told. (row.row.made.told told).empty;
+  had = had_told (view before.disk).content [] (λ told. (row.row.made.told told).empty);
   answer = (refl, refl);
   output = row.row.told;
 }
@@ -104,7 +109,7 @@ cut_row view secret (Some (serve w)) before after (Err WriteFault) row e = absur
 cut_row view secret (Some (drill w)) before after (Err WriteFault) row e = record {
   given = of_input [];
   body = drill_text w.records;
-  had = λ told. (row.row.made.told told).empty;
+  had = had_told (view before.disk).content [] (λ told. (row.row.made.told told).empty);
   answer = (refl, refl);
   rose = row.row.told.0;
   output = row.row.told.1;

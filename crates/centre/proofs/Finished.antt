@@ -1,6 +1,6 @@
 -- A run that neither failed nor ran out of memory ended as an answer says.
-use Rattle.std.proofs.Common.{◌≡◌, ◌≢◌, ◌⊎◌, inl, inr, ℕ, ◌<◌, length, ◌∷◌, List, [], Option, None, Some, Result, Ok, Err, refl, sym, ◌∙◌, subst, arith}
-use Rattle.disk_model.specs.View.{DiskView, WhereTold}
+use Rattle.std.proofs.Common.{◌≡◌, ◌≢◌, ◌⊎◌, inl, inr, ℕ, ◌<◌, length, ◌∷◌, List, [], Option, None, Some, is_some, unwrap_or, true, Result, Ok, Err, refl, sym, ap, ◌∙◌, subst, arith}
+use Rattle.disk_model.specs.View.{DiskView, WhereTold, file_of}
 use Rattle.centre.specs.declared.ending.Refusal.{Refusal}
 use Rattle.centre.specs.declared.ending.Refusal.TheVariants.{UnknownCommand, Value, Order, Record, NoData, TooLarge, InputTooLong, NotEmpty, NotAJournal, Damaged, RequestCut}
 use Rattle.centre.specs.declared.ending.Stop.{Stop}
@@ -111,15 +111,22 @@ some_bytes : (len : ℕ) (file : List ℕ) → len ≡ length file → 0 < len �
 some_bytes len [] is some e = omega (arith, is, some)
 some_bytes len (x ∷ xs) is some e = cc
 
+-- a disk that tells its bytes tells that it holds them
+told_by : {content : Option (List ℕ)} {file : List ℕ} → content ≡ Some file → is_some content ≡ true
+told_by e = ap is_some e
+
+file_by : {content : Option (List ℕ)} {file : List ℕ} → content ≡ Some file → unwrap_or content [] ≡ file
+file_by e = ap (λ o. unwrap_or o []) e
+
 init_ended : {D : Type 0} (view : D → DiskView) (w : InitWords) (given : Given) (before after : World D) (ending : Result (Unit {0}) Stop) → AreGiven view (Some (init w)) before after given → InitRow view w before after ending
     → Ended (Some (init w)) given ending
 init_ended view w given before after (Ok done) e row =
-    let made = row.disk.told e.0 in
-    inr (record { answer = Ok []; is = (sym e.1 ∙ made.empty, refl); status_is = refl; text_is = refl })
+    let made = row.disk.told (told_by e) in
+    inr (record { answer = Ok []; is = (sym (file_by e) ∙ made.empty, refl); status_is = refl; text_is = refl })
 init_ended view w given before after (Err (Refused NotEmpty)) e row =
-    let made = row.1.disk.told e.0 in
-    let file : (view before.disk).content ≢ [] = some_bytes row.0 (view before.disk).content made.fault.0 made.fault.1 in
-    inr (record { answer = Err NotEmpty; is = λ none. file (e.1 ∙ none); status_is = refl; text_is = refl })
+    let made = row.1.disk.told (told_by e) in
+    let file : file_of (view before.disk) ≢ [] = some_bytes row.0 (file_of (view before.disk)) made.fault.0 made.fault.1 in
+    inr (record { answer = Err NotEmpty; is = λ none. file (file_by e ∙ none); status_is = refl; text_is = refl })
 init_ended view w given before after (Err DiskFault) e row = inl seven
 init_ended view w given before after (Err PortFault) e row = absurd row
 init_ended view w given before after (Err OutOfMemory) e row = inl seventy
@@ -139,13 +146,13 @@ init_ended view w given before after (Err WriteFault) e row = absurd row
 drill_ended : {D : Type 0} (view : D → DiskView) (w : DrillWords) (given : Given) (before after : World D) (ending : Result (Unit {0}) Stop) → AreGiven view (Some (drill w)) before after given → DrillEnding view w before after ending
     → Ended (Some (drill w)) given ending
 drill_ended view w given before after (Ok done) e row =
-    let made = row.row.made.told e.0 in
-    inr (record { answer = Ok (drill_text w.records); is = (sym e.1 ∙ made.empty, refl); status_is = refl; text_is = refl })
+    let made = row.row.made.told (told_by e) in
+    inr (record { answer = Ok (drill_text w.records); is = (sym (file_by e) ∙ made.empty, refl); status_is = refl; text_is = refl })
 drill_ended view w given before after (Err WriteFault) e row = inl six
 drill_ended view w given before after (Err (Refused NotEmpty)) e row =
-    let was = row.1.row.run.told e.0 in
-    let file : (view before.disk).content ≢ [] = some_bytes row.0 (view before.disk).content was.len_is was.some in
-    inr (record { answer = Err NotEmpty; is = λ none. file (e.1 ∙ none); status_is = refl; text_is = refl })
+    let was = row.1.row.run.told (told_by e) in
+    let file : file_of (view before.disk) ≢ [] = some_bytes row.0 (file_of (view before.disk)) was.len_is was.some in
+    inr (record { answer = Err NotEmpty; is = λ none. file (file_by e ∙ none); status_is = refl; text_is = refl })
 drill_ended view w given before after (Err DiskFault) e row = inl seven
 drill_ended view w given before after (Err OutOfMemory) e row = inl seventy
 drill_ended view w given before after (Err (Refused UnknownCommand)) e row = absurd row
@@ -173,19 +180,19 @@ served : {D : Type 0} (view : D → DiskView) (secret : Setting) (w : TalkWords)
     → SessionEnded (scene talked.first (joined before.streams.source before.streams.sink) before.given) (scene talked.last (joined after.streams.source after.streams.sink) after.given) secret turns ending
     → IsServed given.file given.input ending
 served view s w given before after turns end ending e talked ended =
-    let opened = talked.history e.0.0 in
+    let opened = talked.history (told_by e.0) in
     let same : ended.taken ≡ given.input = taken_once before.streams.source.left after.streams.source.left ended.taken given.input e.1 ended.lost e.2 in
     let F : List ℕ → Type 0 = λ file. IsHistoryOf file talked.first.seen in
     let I : List ℕ → Type 0 = λ input. AreItems 0 input ended.items ended.interim ending in
     record {
       history = talked.first.seen;
-      opens = record { history = subst F e.0.1 opened; some = talked.some };
+      opens = record { history = subst F (file_by e.0) opened; some = talked.some };
       ends = record { items = ended.items; interim = ended.interim; all = subst I same ended.all };
     }
 
 refused_start : {D : Type 0} (view : D → DiskView) (w : TalkWords) (given : Given) (before after : World D) (Fact : List ℕ → Type 0) → AreGiven view (Some (talk w)) before after given
-    → WhereTold (view before.disk) (Fact (view before.disk).content) → Fact given.file
-refused_start view w given before after Fact e why = subst Fact e.0.1 (why e.0.0)
+    → WhereTold (view before.disk) (Fact (file_of (view before.disk))) → Fact given.file
+refused_start view w given before after Fact e why = subst Fact (file_by e.0) (why (told_by e.0))
 
 talk_ended : {D : Type 0} (view : D → DiskView) (secret : Secret) (w : TalkWords) (given : Given) (before after : World D) (ending : Result (Unit {0}) Stop) → AreGiven view (Some (talk w)) before after given → TalkEnding view secret w before after ending
     → Ended (Some (talk w)) given ending
@@ -237,14 +244,14 @@ serve_ended view secret w given before after (Ok done) e row =
     let F : List ℕ → Type 0 = λ file. IsHistoryOf file opened.opening in
     inr (record {
       answer = Ok [];
-      is = (refl, (opened.opening, record { history = subst F e.1 (opened.opened e.0); some = opened.some }));
+      is = (refl, (opened.opening, record { history = subst F (file_by e) (opened.opened (told_by e)); some = opened.some }));
       status_is = refl;
       text_is = refl;
     })
 serve_ended view secret w given before after (Err (Refused NotAJournal)) e row =
-    inr (record { answer = Err NotAJournal; is = subst (λ (file : List ℕ). IsStartFault file start.NotAJournal) e.1 (row.row.cause e.0); status_is = refl; text_is = refl })
+    inr (record { answer = Err NotAJournal; is = subst (λ (file : List ℕ). IsStartFault file start.NotAJournal) (file_by e) (row.row.cause (told_by e)); status_is = refl; text_is = refl })
 serve_ended view secret w given before after (Err (Refused (Damaged at))) e row =
-    inr (record { answer = Err (Damaged at); is = subst (λ (file : List ℕ). IsStartFault file (start.Damaged at)) e.1 (row.row.cause e.0); status_is = refl; text_is = refl })
+    inr (record { answer = Err (Damaged at); is = subst (λ (file : List ℕ). IsStartFault file (start.Damaged at)) (file_by e) (row.row.cause (told_by e)); status_is = refl; text_is = refl })
 serve_ended view secret w given before after (Err DiskFault) e row = inl seven
 serve_ended view secret w given before after (Err PortFault) e row = inl eight
 serve_ended view secret w given before after (Err OutOfMemory) e row = inl seventy

@@ -1,9 +1,9 @@
 -- What a command reads of the outside, and what is told of it.
-use Rattle.std.specs.Prelude.{◌≡◌, ℕ, List, Option, Some, true, ⊤, IsSome}
+use Rattle.std.specs.Prelude.{◌≡◌, ℕ, List, Option, Some, ⊤, IsSome}
 use Rattle.std.specs.Io.KnownBytes.{Consumes}
 use Rattle.exact_time.specs.declared.moment.Moment.{Moment}
 use Rattle.http_wire.specs.declared.turn.Turn.{Turn}
-use Rattle.disk_model.specs.View.{DiskView, WhereTold}
+use Rattle.disk_model.specs.View.{DiskView}
 use Rattle.link_ports.specs.Ports.{PortView}
 use Rattle.streams.specs.View.{StreamView}
 use Rattle.centre_talk.specs.Talk.{Place, place}
@@ -39,26 +39,22 @@ pub record Given : Type 0 where
   pub input : List ℕ
   pub file : List ℕ
 
--- the disk tells that it held this file
-abbrev pub IsFile : DiskView → List ℕ → Type 0
-IsFile view file = (view.tells ≡ true) × (view.content ≡ file)
-
 -- What the command reads tells that it held this. `select` reads the source to its end, `init`, `drill` and `serve` the
 -- disk, `talk` both, and the others nothing.
 abbrev pub AreGiven : {D : Type 0} → (D → DiskView) → Option Command → World D → World D → Given → Type 0
 AreGiven view (Some (select w)) before after given = before.streams.source.left ≡ Some given.input
-AreGiven view (Some (init w)) before after given = IsFile (view before.disk) given.file
-AreGiven view (Some (serve w)) before after given = IsFile (view before.disk) given.file
-AreGiven view (Some (drill w)) before after given = IsFile (view before.disk) given.file
+AreGiven view (Some (init w)) before after given = (view before.disk).content ≡ Some given.file
+AreGiven view (Some (serve w)) before after given = (view before.disk).content ≡ Some given.file
+AreGiven view (Some (drill w)) before after given = (view before.disk).content ≡ Some given.file
 AreGiven view (Some (talk w)) before after given =
-    IsFile (view before.disk) given.file × IsSome before.streams.source.left × Consumes before.streams.source.left after.streams.source.left given.input
+    ((view before.disk).content ≡ Some given.file) × IsSome before.streams.source.left × Consumes before.streams.source.left after.streams.source.left given.input
 AreGiven view _ before after given = ⊤
 
 -- what the command reads held this, where it tells
 abbrev pub HadGiven : {D : Type 0} → (D → DiskView) → Option Command → World D → Given → Type 0
 HadGiven view (Some (select w)) before given = Had before.streams.source.left given.input
-HadGiven view (Some (init w)) before given = WhereTold (view before.disk) ((view before.disk).content ≡ given.file)
-HadGiven view (Some (drill w)) before given = WhereTold (view before.disk) ((view before.disk).content ≡ given.file)
+HadGiven view (Some (init w)) before given = Had (view before.disk).content given.file
+HadGiven view (Some (drill w)) before given = Had (view before.disk).content given.file
 HadGiven view _ before given = ⊤
 
 -- a fact of what the command reads, where that is told

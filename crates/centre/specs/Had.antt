@@ -1,8 +1,8 @@
--- What a source had.
+-- What a source or a disk had.
 use Rattle.std.specs.Prelude.{◌≡◌, ℕ, ◌<◌, List, length, ⊤, Some, None}
 use Rattle.std.specs.declared.option.Option.{Option}
 
--- the source had this input, where it tells
+-- it had these bytes, where it tells
 abbrev pub Had : Option (List ℕ) → List ℕ → Type 0
 Had None input = ⊤
 Had (Some xs) input = xs ≡ input

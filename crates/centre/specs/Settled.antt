@@ -1,7 +1,7 @@
 -- Which status comes exactly where: what the words and what is read determine, and the status that says so.
 use Rattle.std.specs.Prelude.{◌≡◌, ◌≢◌, ◌⊎◌, ℕ, List, [], ◌∷◌, Option, None, Some, Result, Ok, Err, ⊤}
 use Rattle.disk_model.specs.Disk.{Leaves}
-use Rattle.disk_model.specs.View.{DiskView, WhereTold}
+use Rattle.disk_model.specs.View.{DiskView, WhereTold, file_of}
 use Rattle.http_digest.specs.declared.secret.Secret.{Secret}
 use Rattle.archive_state.specs.Lawful.{founding_entry}
 use Rattle.archive_log.specs.Histories.{Recovers, IsHistoryOf}
@@ -110,12 +110,12 @@ IsCutShort view command before after = GotPart view command before after
 
 -- the disk reads as the journal of a new archive of this operator, and so does every image
 pub record HoldsNewArchive (view : DiskView) (w : InitWords) : Type 0 where
-  pub history : IsHistoryOf view.content (founding_entry w.operator w.ha1 ∷ [])
+  pub history : IsHistoryOf (file_of view) (founding_entry w.operator w.ha1 ∷ [])
   pub images : Leaves view.may_leave (Recovers (founding_entry w.operator w.ha1 ∷ []))
 
 -- the file reads as before, and every image is one of those before
 pub record KeepsFile (old new : DiskView) : Type 0 where
-  pub content : new.content ≡ old.content
+  pub content : file_of new ≡ file_of old
   pub images : Leaves new.may_leave old.may_leave
 
 -- whatever the status, a command that uses no disk leaves it as it was

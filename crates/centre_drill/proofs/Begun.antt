@@ -1,21 +1,18 @@
 -- The history with its first batches: what it holds, and that the next batch comes next.
-use Rattle.std.proofs.Common.{◌≡◌, ◌∙◌, ◌==◌, ◌&&◌, ℕ, zero, suc, ◌+◌, ◌-◌, ◌*◌, ◌/◌, ◌<◌, ◌≤◌, min, Bool, true, false, cond, List, [], ◌∷◌, ◌++◌, length, map, Option, None, Some, Result, Ok, refl, sym, ap, subst, codes, arith, length-append}
+use Rattle.std.proofs.Common.{◌≡◌, ◌∙◌, ◌==◌, ◌&&◌, ℕ, zero, suc, ◌+◌, ◌-◌, ◌*◌, ◌<◌, ◌≤◌, true, false, cond, List, [], ◌∷◌, ◌++◌, length, None, Some, Ok, refl, sym, ap, subst, arith}
 use Rattle.std.specs.Prelude.{max, nat_le}
-use Rattle.std.specs.List.{range_with_len}
 use Rattle.std.specs.Option.{option_or}
 use Rattle.std.proofs.lemmas.Bool.Decides.{nat_tests}
 use Rattle.std.proofs.lemmas.List.FromFn.{map-range_with_len_more, length-map-range_with_len}
-use Rattle.mseed_header.specs.declared.header.RecordFault.{RecordFault}
-use Rattle.epochs.specs.Kinds.{Text}
 use Rattle.epochs.specs.Lines.{LineValues}
 use Rattle.epoch_rules.specs.Kept.{first_broken}
 use Rattle.archive_entry.specs.Batches.{batch_of, count_in}
 use Rattle.archive_entry.specs.declared.entry.Entry.{Entry}
 use Rattle.archive_entry.specs.declared.entry.Kind.TheVariants.{Batch, Revise}
 use Rattle.archive_entry.proofs.Readings.{batch_of-only}
-use Rattle.archive_state.specs.History.{live_of, records_of, bytes_of, earlier_of, is_by, last_seq, may_post}
+use Rattle.archive_state.specs.History.{live_of, records_of, bytes_of, earlier_of, last_seq, may_post}
 use Rattle.archive_state.specs.Lawful.{founding_entry, full, is_accept, is_lawful, is_next}
-use Rattle.archive_state.specs.Verdicts.{command, entry_of, judged_of, totals_of, body_verdict}
+use Rattle.archive_state.specs.Verdicts.{command, entry_of, judged_of}
 use Rattle.archive_state.proofs.FoundingEntry.{founding_next}
 use Rattle.archive_state.proofs.Growth.{bytes_more, earlier_more, last_more, lawful_more, live_by_batch, records_more}
 use Rattle.archive_state.proofs.Sendings.{accepted_is_next}
@@ -23,7 +20,7 @@ use Rattle.centre_drill.specs.History.{batch_entry, batch_size, begun, epoch, fe
 use Rattle.centre_drill.specs.Records.{made_body}
 use Rattle.centre_drill.proofs.Accepted.{accepted_by, batch_accepted, revision_accepted}
 use Rattle.centre_drill.proofs.MadeRows.{made_count, made_octets, made_size}
-use Rattle.centre_drill.proofs.Users.{first, both, both_live, both_may, feed_kept, feed_line, feed_revision, first_live, first_may, operator_line}
+use Rattle.centre_drill.proofs.Users.{first, both, both_may, feed_kept, feed_line, feed_revision, first_live, first_may}
 
 -- ---- the second entry
 

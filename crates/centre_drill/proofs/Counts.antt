@@ -1,12 +1,12 @@
 -- What is counted of rows.
-use Rattle.std.proofs.Common.{◌≡◌, ◌∙◌, ℕ, zero, suc, ◌+◌, ◌≤◌, List, [], ◌∷◌, ◌++◌, length, take, map, Some, Ok, refl, sym, ap, arith, length-append}
+use Rattle.std.proofs.Common.{◌≡◌, ◌∙◌, ℕ, zero, suc, ◌+◌, List, [], ◌∷◌, length, take, map, Some, Ok, refl, sym, ap, arith, length-append}
 use Rattle.std.specs.List.{slice_get}
 use Rattle.std.specs.Prelude.{Result}
 use Rattle.mseed_header.specs.Records.{images_of}
 use Rattle.mseed_header.specs.declared.row.Row.{Row}
 use Rattle.channel_globs.specs.declared.nslc.Part.{Part}
 use Rattle.channel_globs.specs.declared.patterns.GlobFault.{GlobFault}
-use Rattle.channel_globs.specs.PatternText.{IsPatternList, item_of, words_of}
+use Rattle.channel_globs.specs.PatternText.{IsPatternList}
 
 -- the bytes of one row more
 pub sized_more : (rows : List Row) (i : ℕ) (row : Row) → slice_get rows i ≡ Some row → length (images_of (take (suc i) rows)) ≡ length (images_of (take i rows)) + length row.image

@@ -1,11 +1,11 @@
 -- The rows in which a drill ends.
-use Rattle.std.proofs.Common.{◌≡◌, ◌∙◌, ℕ, true, List, Result, Ok, Err, refl, sym, ap, subst}
+use Rattle.std.proofs.Common.{◌≡◌, ◌∙◌, ℕ, List, Result, Ok, Err, refl, sym, subst}
 use Rattle.disk_model.specs.View.{DiskView, IsHonest, WhereTold, DiskRun}
 use Rattle.archive_entry.specs.declared.entry.Entry.{Entry}
 use Rattle.archive_state.specs.declared.admit.Admit.{Admit}
 use Rattle.archive_log.specs.Archive.{Archived, Stands}
 use Rattle.streams.specs.View.{StreamView}
-use Rattle.centre_drill.specs.Drill.{DrillRow, HasDrilled, HasStopped, IsArchiveMade, TellsFigures}
+use Rattle.centre_drill.specs.Drill.{DrillRow, IsArchiveMade, TellsFigures}
 use Rattle.centre_drill.specs.History.{made_history}
 use Rattle.centre_drill.specs.Making.{Begins, IsSilentStop, IsUnderWay}
 use Rattle.centre_drill.specs.declared.ending.DrillStop.{DrillStop}

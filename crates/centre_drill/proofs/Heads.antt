@@ -1,23 +1,22 @@
 -- The header of a made record.
-use Rattle.std.proofs.Common.{◌≡◌, ◌∙◌, ℕ, zero, suc, ◌+◌, ◌-◌, ◌*◌, ◌/◌, ◌%◌, ◌<◌, ◌≤◌, false, true, List, [], ◌∷◌, ◌++◌, length, pos, ℤ, ◌+ℤ◌, ◌*ℤ◌, refl, sym, ap, subst, codes, arith, replicate, Some}
+use Rattle.std.proofs.Common.{◌≡◌, ℕ, zero, suc, ◌+◌, ◌*◌, ◌/◌, ◌%◌, ◌<◌, false, [], ◌∷◌, pos, ℤ, ◌+ℤ◌, ◌*ℤ◌, refl, subst, codes, arith}
 use Rattle.std.specs.Cmp.{int_ranks}
-use Rattle.std.specs.Ordering.{int_cmp, MatchOrdering}
+use Rattle.std.specs.Ordering.{MatchOrdering}
 use Rattle.std.specs.Prelude.{◌<ℤ◌}
 use Rattle.std.specs.declared.cmp.Ordering.{Ordering}
-use Rattle.std.specs.declared.cmp.Ordering.TheVariants.{Greater}
 use Rattle.std.proofs.Math.Nat.{one-dvd}
 use Rattle.std.proofs.lemmas.Int.{ints}
 use Rattle.exact_time.proofs.Examples.{new_year}
-use Rattle.exact_time.specs.BTime.{IsBTime, btime_micros, clock_micros}
+use Rattle.exact_time.specs.BTime.{IsBTime}
 use Rattle.exact_time.specs.declared.ratio.Ratio.{Ratio}
 use Rattle.mseed_header.proofs.Fronts.{record_of}
 use Rattle.mseed_header.specs.Blockettes.{HasChain}
 use Rattle.mseed_header.specs.CodeField.{IsCodeField}
-use Rattle.mseed_header.specs.Fields.{bytes_at, time_at}
+use Rattle.mseed_header.specs.Fields.{time_at}
 use Rattle.mseed_header.specs.Header.{HasHeader, IsRecord, EndsInTime, start_micros}
 use Rattle.mseed_header.specs.declared.header.Header.{Header}
 use Rattle.mseed_header.specs.declared.quality.Quality.TheVariants.{D}
-use Rattle.centre_drill.specs.Records.{digit, seconds_after, made_record, IsMadeHeader}
+use Rattle.centre_drill.specs.Records.{digit, seconds_after, made_record}
 
 -- the second after 2024 began
 pub seconds_bound : (i : ℕ) → i < 200_000 → seconds_after i < 172_800

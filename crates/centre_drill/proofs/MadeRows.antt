@@ -1,14 +1,14 @@
 -- The made records, one after another, are the records of a batch.
-use Rattle.std.proofs.Common.{◌≡◌, ◌∙◌, ◌&&◌, ℕ, zero, suc, ◌+◌, ◌-◌, ◌*◌, ◌/◌, ◌%◌, ◌<◌, ◌≤◌, Bool, true, false, List, [], ◌∷◌, ◌++◌, length, pos, ◌≤ℤ◌, ◌<ℤ◌, refl, sym, ap, subst, codes, arith, replicate, Some, Ok, length-append, append-nil, append_assoc}
+use Rattle.std.proofs.Common.{◌≡◌, ◌∙◌, ◌&&◌, ℕ, zero, suc, ◌+◌, ◌-◌, ◌*◌, ◌/◌, ◌%◌, ◌<◌, ◌≤◌, Bool, true, false, List, [], ◌∷◌, ◌++◌, length, pos, ◌≤ℤ◌, ◌<ℤ◌, refl, sym, ap, subst, arith, Some, length-append, append-nil, append_assoc}
 use Rattle.std.specs.Prelude.{nat_lt}
-use Rattle.std.specs.List.{flat_map, range_with_len, slice_get, list_all}
+use Rattle.std.specs.List.{slice_get}
 use Rattle.std.proofs.lemmas.Bool.Decides.{nat_tests}
 use Rattle.exact_time.specs.declared.moment.Moment.{Moment}
 use Rattle.mseed_header.specs.Octets.{AreOctets, are_octets}
-use Rattle.mseed_header.specs.Records.{images_of, IsPlaced, AreRecords, HasRecordCount}
+use Rattle.mseed_header.specs.Records.{images_of, IsPlaced, HasRecordCount}
 use Rattle.mseed_header.specs.declared.row.Row.{Row}
 use Rattle.mseed_header.proofs.Octets.{octets_from}
-use Rattle.centre_drill.specs.Records.{digit, seconds_after, made_time, made_head, made_record, made_body}
+use Rattle.centre_drill.specs.Records.{digit, seconds_after, made_record, made_body}
 use Rattle.centre_drill.proofs.Heads.{seconds_bound, made_header, made_is_record}
 
 -- ---- rows

@@ -1,5 +1,5 @@
 -- The credentials of a live user with this digest name that user.
-use Rattle.std.proofs.Common.{◌≡◌, ◌∙◌, ◌&&◌, ◌==◌, ◌||◌, not, ℕ, zero, suc, ◌+◌, ◌*◌, ◌/◌, ◌%◌, ◌<◌, ◌^◌, Bool, true, false, cond, List, [], ◌∷◌, ◌++◌, length, map, Option, None, Some, Result, Ok, Err, refl, sym, ap, subst, codes, arith, append-nil, inl}
+use Rattle.std.proofs.Common.{◌≡◌, ◌∙◌, ◌&&◌, ◌==◌, ℕ, zero, suc, ◌/◌, ◌%◌, ◌<◌, Bool, true, cond, List, [], ◌∷◌, ◌++◌, length, map, Option, None, Some, Result, Ok, refl, sym, ap, codes, arith, append-nil}
 use Rattle.std.specs.Prelude.{nat_lt, slice_index}
 use Rattle.std.specs.Char.{is_ascii_alphanumeric, is_ascii_hexdigit, to_ascii_lowercase}
 use Rattle.std.specs.Int.{w32, to_le_bytes}
@@ -17,7 +17,7 @@ use Rattle.md5.specs.Md5.{md5, digest_bytes}
 use Rattle.epochs.specs.Fields.{is_lower_hex}
 use Rattle.epochs.specs.Kinds.{Text}
 use Rattle.epochs.specs.Lines.{LineValues}
-use Rattle.http_digest.specs.Credentials.{QuotedByte, Plain, Token, Quoted, Parameter, Further, CredentialTree, print_byte, said_byte, is_token_byte, is_quotable, print_credentials, said_items, IsCredentials}
+use Rattle.http_digest.specs.Credentials.{Plain, Token, Quoted, Parameter, Further, CredentialTree, print_byte, said_byte, is_token_byte, is_quotable, print_credentials, said_items, IsCredentials}
 use Rattle.http_digest.specs.Nonces.{nonce_of, issue_of, second_of}
 use Rattle.http_digest.specs.Parts.{IsAuthorization, authorization_said}
 use Rattle.http_digest.specs.Responses.{colon, digest_of, response_of}
@@ -30,7 +30,7 @@ use Rattle.http_digest.proofs.Hexadecimal.{nonce_digits}
 use Rattle.http_digest.proofs.NonceLaw.{tells_second}
 use Rattle.access_digest.specs.Who.{reading_of, for_target, authorized, ha1_of, is_fresh, denial_by, denial_of, named as named_by, who_by, who_of}
 use Rattle.access_digest.specs.declared.denial.Denial.{Denial}
-use Rattle.access_digest.specs.declared.denial.Denial.TheVariants.{Stale, WrongResponse, Unreadable}
+use Rattle.access_digest.specs.declared.denial.Denial.TheVariants.{Stale, WrongResponse}
 use Rattle.centre_drill.specs.Credentials.{method, target, quoted, header_text}
 use Rattle.centre_drill.specs.History.{epoch, ha1}
 

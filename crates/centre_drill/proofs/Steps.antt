@@ -1,9 +1,8 @@
 -- What is known of an archive from step to step while it is made.
-use Rattle.std.proofs.Common.{◌≡◌, ◌∙◌, ℕ, ◌+◌, ◌-◌, ◌<◌, ◌≤◌, true, false, List, [], ◌∷◌, ◌++◌, length, Result, Ok, Err, inl, inr, refl, sym, ap, subst, arith}
+use Rattle.std.proofs.Common.{◌≡◌, ◌∙◌, ℕ, ◌+◌, ◌-◌, ◌≤◌, true, false, List, [], ◌∷◌, ◌++◌, length, Result, Ok, Err, inl, inr, refl, sym, ap, subst, arith}
 use Rattle.std.specs.Prelude.{OnOk, IsErrOf}
 use Rattle.std.specs.Result.{IsErrAnd}
-use Rattle.disk_model.specs.Disk.{Leaves}
-use Rattle.disk_model.specs.View.{DiskView, IsHonest, WhereTold, DiskRun}
+use Rattle.disk_model.specs.View.{DiskView, IsHonest, WhereTold, DiskRun, is_told, file_of}
 use Rattle.archive_entry.specs.declared.entry.Entry.{Entry}
 use Rattle.archive_state.specs.Admits.{IsAdmit}
 use Rattle.archive_state.specs.Lawful.{IsLawful, full, is_accept, is_fit, is_next}
@@ -16,7 +15,6 @@ use Rattle.access_digest.specs.declared.denial.Denial.{Denial}
 use Rattle.epochs.specs.Kinds.{Text}
 use Rattle.archive_log.specs.Archive.{Archived, Stands}
 use Rattle.archive_log.specs.Founding.{MakesArchive}
-use Rattle.archive_log.specs.Histories.{Recovers, IsHistoryOf}
 use Rattle.archive_log.specs.declared.fault.FoundFault.{FoundFault}
 use Rattle.archive_log.specs.declared.fault.FoundFault.TheVariants as found
 use Rattle.owned_desk.proofs.Growth.{lawful_push}
@@ -107,7 +105,7 @@ begins_on old mid new a r stop first second is may = record {
   told = λ told. record { empty = tt; fault = explains stop may; kept = λ len failed. absurd (no_bytes stop len may (same_stop stop (NotEmpty len) (Err stop) refl failed)) };
 }
   where
-    explains : (stop : DrillStop) → IsMakingStop stop → ExplainsStop old.content stop
+    explains : (stop : DrillStop) → IsMakingStop stop → ExplainsStop (file_of old) stop
     explains WriteFault may = absurd may
     explains DiskFault may = tt
     explains (NotEmpty len) may = absurd may
@@ -123,7 +121,7 @@ pub holds : {D : Type 0} (view : D → DiskView) (archive : Archived D) (h : Lis
 holds view archive h honest stands running is =
     let images = stands.running running in
     subst (λ (l : List Entry). HoldsHistory (view archive.disk) l) is
-    (record { history = record { history = stands.history; journal = images (view archive.disk).content honest.reads }; images = images })
+    (record { history = record { history = stands.history; journal = images (file_of (view archive.disk)) honest.reads }; images = images })
 
 pub silent_founding : (fault : FoundFault) → IsSilentStop (stop_for_founding fault)
 silent_founding found.DiskFault = tt
@@ -167,8 +165,8 @@ module _ {D : Type 0} (view : D → DiskView) (old mid : Archived D) (admit : Ad
   pub still_runs : mid.stopped ≡ false
   still_runs = ap (λ (a : Archived D). a.stopped) prepared ∙ way.running
 
-  pub told_before : (view mid.disk).tells ≡ true → (view old.disk).tells ≡ true
-  told_before told = ap (λ (d : D). (view d).tells) (sym same_disk) ∙ told
+  pub told_before : is_told (view mid.disk) ≡ true → is_told (view old.disk) ≡ true
+  told_before told = ap (λ (d : D). is_told (view d)) (sym same_disk) ∙ told
 
   -- the entry comes next in the archive too
   pub next_there : (e : Entry) → is_next state e ≡ true → WhereTold (view mid.disk) (is_next mid.history e ≡ true)
@@ -181,7 +179,7 @@ module _ {D : Type 0} (view : D → DiskView) (old mid : Archived D) (admit : Ad
   pub rest_run : (B : Type 0) → (B → ⊥) → Runs (view old.disk) (view mid.disk) B
   rest_run B never = subst (λ (x : D). Runs (view x) (view mid.disk) B) same_disk (at_rest (view mid.disk) B never)
 
-  module _ (new : Archived D) (e given : Entry) (committed : new ≡ record mid { disk = new.disk; history = new.history; count = mid.count + 1; spare = mid.spare - 1 }) (tells : (view new.disk).tells ≡ (view mid.disk).tells)
+  module _ (new : Archived D) (e given : Entry) (committed : new ≡ record mid { disk = new.disk; history = new.history; count = mid.count + 1; spare = mid.spare - 1 }) (tells : is_told (view new.disk) ≡ is_told (view mid.disk))
       (added : WhereTold (view mid.disk) (new.history ≡ mid.history ++ e ∷ [])) (back : given ≡ e) (next : is_next state e ≡ true) where
     pub grown : (later : List Entry) → later ≡ state ++ given ∷ [] → later ≡ state ++ e ∷ []
     grown later is = is ∙ ap (λ (x : Entry). state ++ x ∷ []) back

@@ -10,7 +10,6 @@ use Rattle.std.proofs.lemmas.Str.Ascii.{IsAscii-nil, IsAscii-cons}
 use Rattle.epochs.specs.declared.parts.Roles.{Roles}
 use Rattle.epochs.specs.Kinds.{Text}
 use Rattle.epochs.specs.Lines.{LineValues, IsPlain, IsLine}
-use Rattle.epochs.specs.Revisions.{IsRevision}
 use Rattle.epochs.specs.Values.{user_line}
 use Rattle.epochs.specs.declared.fault.RevisionFault.{RevisionFault}
 use Rattle.epoch_rules.specs.Kept.{first_broken}

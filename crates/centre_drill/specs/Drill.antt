@@ -1,8 +1,8 @@
 -- What a drill leaves, by how it ended.
-use Rattle.std.specs.Prelude.{◌≡◌, ℕ, ◌<◌, ◌≤◌, List, [], length, Result, Ok, Err}
+use Rattle.std.specs.Prelude.{◌≡◌, ℕ, ◌<◌, List, [], length, Result, Ok, Err}
 use Rattle.exact_time.specs.Causes.{Rose}
 use Rattle.disk_model.specs.Disk.{Leaves}
-use Rattle.disk_model.specs.View.{DiskView, WhereTold, DiskRun}
+use Rattle.disk_model.specs.View.{DiskView, DiskRun, file_of}
 use Rattle.archive_entry.specs.declared.entry.Entry.{Entry}
 use Rattle.archive_log.specs.Histories.{Recovers, IsHistoryOf}
 use Rattle.archive_log.specs.declared.fault.FoundFault.{FoundFault}
@@ -11,7 +11,7 @@ use Rattle.streams.specs.View.{StreamView}
 use Rattle.streams.specs.Effects.{Grew, WritesPart}
 use Rattle.centre_drill.specs.Figures.{figures_of, figures_text}
 use Rattle.centre_drill.specs.History.{made_history}
-use Rattle.centre_drill.specs.Making.{IsKept, Runs}
+use Rattle.centre_drill.specs.Making.{IsKept}
 use Rattle.centre_drill.specs.declared.ending.DrillStop.{DrillStop}
 use Rattle.centre_drill.specs.declared.ending.DrillStop.TheVariants.{WriteFault, DiskFault, NotEmpty, OutOfMemory}
 
@@ -31,12 +31,12 @@ TellsFigures h old new (Err _) = ⊥
 
 -- the file is a journal of this history, and so is every image
 pub record HoldsHistory (view : DiskView) (h : List Entry) : Type 0 where
-  pub history : IsHistoryOf view.content h
+  pub history : IsHistoryOf (file_of view) h
   pub images : Leaves view.may_leave (Recovers h)
 
 -- the archive of so many records was made in an empty file
 pub record IsArchiveMade (count : ℕ) (old new : DiskView) : Type 0 where
-  pub empty : old.content ≡ []
+  pub empty : file_of old ≡ []
   pub holds : HoldsHistory new (made_history count)
 
 -- all is done, or the sink failed when the archive was made: it is on the disk
@@ -51,7 +51,7 @@ pub record HasStopped (sink sunk : StreamView) (disk left : DiskView) (Failed To
 
 -- the file had so many bytes, and is as it was
 pub record WasNotEmpty (disk left : DiskView) (len : ℕ) : Type 0 where
-  pub len_is : len ≡ length disk.content
+  pub len_is : len ≡ length (file_of disk)
   pub some : 0 < len
   pub kept : IsKept disk left
 

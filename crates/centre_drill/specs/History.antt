@@ -1,5 +1,5 @@
 -- The history that is made: the founding entry, a user who may post batches, and that user's batches of made records.
-use Rattle.std.specs.Prelude.{ℕ, ◌+◌, ◌-◌, ◌*◌, ◌/◌, min, pos, List, [], ◌∷◌, map, codes}
+use Rattle.std.specs.Prelude.{ℕ, ◌+◌, ◌-◌, ◌*◌, ◌/◌, min, pos, List, ◌∷◌, map, codes}
 use Rattle.std.specs.List.{range_with_len}
 use Rattle.exact_time.specs.declared.moment.Moment.{Moment}
 use Rattle.epochs.specs.Kinds.{Text}

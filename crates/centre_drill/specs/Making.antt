@@ -1,7 +1,7 @@
 -- What is known while an archive is made.
-use Rattle.std.specs.Prelude.{◌≡◌, ◌≢◌, ℕ, ◌<◌, List, [], length, false, Result, Ok, Err, IfErr, OnOk, IsErrOf, ⊤}
+use Rattle.std.specs.Prelude.{◌≡◌, ℕ, ◌<◌, List, [], length, false, Result, Ok, Err, IfErr, OnOk, IsErrOf, ⊤}
 use Rattle.disk_model.specs.Disk.{Leaves}
-use Rattle.disk_model.specs.View.{DiskView, WhereTold, DiskRun}
+use Rattle.disk_model.specs.View.{DiskView, WhereTold, DiskRun, file_of}
 use Rattle.archive_entry.specs.declared.entry.Entry.{Entry}
 use Rattle.archive_state.specs.Admits.{IsAdmit}
 use Rattle.archive_state.specs.Lawful.{IsLawful}
@@ -45,14 +45,14 @@ ExplainsStop file OutOfMemory = ⊤
 
 -- the file reads as before, and the images are the same
 pub record IsKept (old new : DiskView) : Type 0 where
-  pub content : new.content ≡ old.content
+  pub content : file_of new ≡ file_of old
   pub fewer : Leaves new.may_leave old.may_leave
   pub more : Leaves old.may_leave new.may_leave
 
 -- an archive is begun in an empty file alone; a file with bytes stays as it is
 pub record IsBegun {T : Type 0} (old new : DiskView) (outcome : Result T DrillStop) : Type 0 where
-  pub empty : OnOk outcome (old.content ≡ [])
-  pub fault : IfErr outcome (ExplainsStop old.content)
+  pub empty : OnOk outcome (file_of old ≡ [])
+  pub fault : IfErr outcome (ExplainsStop (file_of old))
   pub kept : (len : ℕ) → IsErrOf outcome (NotEmpty len) → IsKept old new
 
 -- the calls of a disk that make an archive, or some first entries of it

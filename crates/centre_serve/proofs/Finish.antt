@@ -6,7 +6,7 @@ use mathlib.Core.List.{IsPrefix}
 use Rattle.archive_entry.specs.declared.entry.Entry.{Entry}
 use Rattle.desk_words.specs.Setting.{Setting}
 use Rattle.desk_words.specs.Stand.{nothing}
-use Rattle.disk_model.specs.View.{DiskView}
+use Rattle.disk_model.specs.View.{DiskView, is_told}
 use Rattle.link_ports.specs.Ports.{PortView}
 use Rattle.snapshot_hall.specs.Ends.{Closed}
 use Rattle.two_copies.specs.Tallies.{Tally}
@@ -52,7 +52,7 @@ module _ {J D P : Type 0} (scene : J → PortScene) (failed : J → Bool) (place
     (closed : Closed view told faults opening seen counted (map place ys) disk)
     (seen_is : (y : J) → (scene y).stand.seen ≡ seen (place y)) (made_is : (y : J) → (scene y).stand.made ≡ (counted (place y)).made)
     (stops_is : (y : J) → (scene y).stand.stops ≤ (counted (place y)).stops)
-    (told_is : told ≡ was.tells) (tells : (view disk).tells ≡ told) where
+    (told_is : told ≡ is_told was) (tells : is_told (view disk) ≡ told) where
   abbrev port_of : J → PortView
   port_of j = (scene j).port
 

@@ -6,7 +6,7 @@ use Rattle.archive_log.specs.declared.fault.StartFault.{StartFault}
 use Rattle.archive_log.specs.declared.fault.StartFault.TheVariants as start
 use Rattle.desk_words.specs.Setting.{Setting}
 use Rattle.disk_model.specs.Effects.{WritesNothing}
-use Rattle.disk_model.specs.View.{DiskView, WhereTold}
+use Rattle.disk_model.specs.View.{DiskView, WhereTold, file_of}
 use Rattle.link_ports.specs.Ports.{PortView}
 use Rattle.centre_serve.specs.Service.{Site, site, Serving, StartedRow, IsRefused, RanShort, ServeRow}
 use Rattle.centre_serve.specs.Stops.{stop_for_start}
@@ -18,7 +18,7 @@ pub refailed : (was mid : DiskView) (Failed Other : Type 0) → (Other → Faile
 refailed was mid Failed Other as_often run = record { tells = run.tells; later = run.later; cause = λ bad. run.cause (as_often bad); told = run.told }
 
 module _ (s : Setting) (was mid : DiskView) (ports : List PortView) (after : Site) (opening : List Entry) (faults : ℕ) (Failed : Type 0) (run : WritesNothing was mid Failed) (since : was.faults ≤ faults)
-    (history : WhereTold was (IsHistoryOf was.content opening)) (some : 1 ≤ length opening) where
+    (history : WhereTold was (IsHistoryOf (file_of was) opening)) (some : 1 ≤ length opening) where
   quiet : WritesNothing was mid ⊥
   quiet = refailed was mid Failed ⊥ (λ bad. absurd bad) run
 

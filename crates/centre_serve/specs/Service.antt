@@ -3,7 +3,7 @@ use Rattle.std.specs.Prelude.{◌≡◌, ◌⊎◌, ℕ, ◌≤◌, true, List, 
 use Rattle.std.specs.List.{sum_by}
 use mathlib.Core.List.{IsPrefix}
 use Rattle.exact_time.specs.Causes.{Rose}
-use Rattle.disk_model.specs.View.{DiskView, WhereTold}
+use Rattle.disk_model.specs.View.{DiskView, WhereTold, is_told, file_of}
 use Rattle.disk_model.specs.Effects.{WritesNothing}
 use Rattle.archive_entry.specs.declared.entry.Entry.{Entry}
 use Rattle.archive_log.specs.Histories.{IsHistoryOf}
@@ -36,8 +36,8 @@ pub record Serving (s : Setting) (before after : Site) (opening : List Entry) : 
   pub begins : IsPrefix opening history
   pub all : AllServed history (length opening) s before.ports after.ports
   pub left : Left
-  pub images : before.disk.tells ≡ true → LeavesLeft after.disk.may_leave history left
-  pub tells : after.disk.tells ≡ before.disk.tells
+  pub images : is_told before.disk ≡ true → LeavesLeft after.disk.may_leave history left
+  pub tells : is_told after.disk ≡ is_told before.disk
 
 -- No command was stopped: nothing is left, and no reply tells that one was.
 pub record IsCalm {s : Setting} {before after : Site} {opening : List Entry} (served : Serving s before after opening) : Type 0 where
@@ -62,14 +62,14 @@ StartedRow s before after opening faults (Err _) = ⊥
 -- the archive was opened with this history, and served
 pub record Opened (s : Setting) (before after : Site) (ending : Result (Unit {0}) ServeStop) : Type 0 where
   pub opening : List Entry
-  pub opened : WhereTold before.disk (IsHistoryOf before.disk.content opening)
+  pub opened : WhereTold before.disk (IsHistoryOf (file_of before.disk) opening)
   pub some : 1 ≤ length opening
   pub serves : Serves s before after opening ending
 
 -- The archive wasn't opened: nothing was written to the disk, and no port was asked.
 pub record IsRefused (before after : Site) (fault : StartFault) : Type 0 where
   pub disk : WritesNothing before.disk after.disk (fault ≡ start.DiskFault)
-  pub cause : WhereTold before.disk (ExplainsStart before.disk.content fault)
+  pub cause : WhereTold before.disk (ExplainsStart (file_of before.disk) fault)
   pub ports : after.ports ≡ before.ports
 
 -- Memory ran out before the first link was taken: nothing was written to the disk, and no port was asked.

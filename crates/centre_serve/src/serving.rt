@@ -1,5 +1,6 @@
 //! A service over the archive of a disk.
 ghost use Rattle.std.specs.Prelude.{◌≡◌, ◌≤◌, [], length, map, vec_capacity, Err, IfOk};
+ghost use Rattle.disk_model.specs.View.{is_told};
 ghost use Rattle.desk_words.specs.Setting.{setting};
 ghost use Rattle.archive_log.specs.Opening.{IsStarted};
 ghost use Rattle.centre_serve.specs.Service.{site, ServeRow, StartedRow};
@@ -71,7 +72,7 @@ fn serve_named<
     requires started { IsStarted D.view archive entries.now admit }
     requires book { opened ≡ J.book }
     requires opening { J.opening ≡ entries.now }
-    requires told { (J.told ≡ (D.view archive.disk).tells) × (J.faults ≡ archive.faults) }
+    requires told { (J.told ≡ is_told (D.view archive.disk)) × (J.faults ≡ archive.faults) }
     requires made { (made.name ≡ L.name) × (made.parts ≡ L.parts) × (L.parts ≡ length workers.items) }
     requires halts { (halts.name ≡ S.name) × (halts.parts ≡ S.parts) × (S.parts ≡ length workers.items) }
     requires workers { (1 ≤ length workers.items) × (length workers.items ≤ 16) }

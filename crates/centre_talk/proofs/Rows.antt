@@ -3,7 +3,7 @@ use Rattle.std.proofs.Common.{◌≡◌, inl, inr, ℕ, ◌+◌, ◌<◌, ◌≤
 use Rattle.std.specs.Prelude.{◌↔◌, IsTrue}
 use Rattle.std.proofs.lemmas.Bool.{false≢true}
 use Rattle.exact_time.specs.Causes.{Rose}
-use Rattle.disk_model.specs.View.{DiskView, WhereTold}
+use Rattle.disk_model.specs.View.{DiskView, WhereTold, is_told, file_of}
 use Rattle.disk_model.specs.Effects.{WritesNothing}
 use Rattle.archive_log.specs.Histories.{IsHistoryOf}
 use Rattle.desk_words.specs.Setting.{Setting}
@@ -35,16 +35,16 @@ rose_before a b c h rose = omega arith
 -- what is known of the desk that a disk was opened as
 pub record Opens (before : DiskView) (first : Stand) : Type 0 where
   pub fresh : IsFresh first
-  pub history : WhereTold before (IsHistoryOf before.content first.seen)
+  pub history : WhereTold before (IsHistoryOf (file_of before) first.seen)
   pub some : 1 ≤ length first.seen
-  pub tells : first.footing.told ≡ before.tells
+  pub tells : first.footing.told ≡ is_told before
   pub since : before.faults ≤ first.footing.faults
 
 talked : (s : Setting) (first : Stand) (before after : Place) (turns : List Turn) (end : SessionEnd) (stopped : Bool) → Opens before.disk first → ServedOver s (scene first (joined before.source before.sink) before.given) (joined after.source after.sink) after.given after.disk turns end stopped
     → HasTalked s before after turns end
 talked s first before after turns end stopped opens served =
     let on = row_goes_on _ _ s turns end served.over.row in
-    let told : served.last.footing.told ≡ before.disk.tells = ap (λ f. f.told) on.footing ∙ opens.tells in
+    let told : served.last.footing.told ≡ is_told before.disk = ap (λ f. f.told) on.footing ∙ opens.tells in
     let since : before.disk.faults ≤ served.last.footing.faults = omega (arith, ap (λ f. f.faults) on.footing, opens.since) in
     record {
       first = first;

@@ -4,7 +4,7 @@ use Rattle.exact_time.specs.Causes.{Rose}
 use Rattle.exact_time.specs.declared.moment.Moment.{Moment}
 use Rattle.desk_words.specs.Setting.{Setting}
 use Rattle.desk_words.specs.Stand.{Stand}
-use Rattle.disk_model.specs.View.{DiskView}
+use Rattle.disk_model.specs.View.{DiskView, is_told}
 use Rattle.http_wire.specs.declared.turn.Turn.{Turn}
 use Rattle.owned_desk.specs.Owned.{LeavesLeft}
 use Rattle.streams.specs.View.{StreamView}
@@ -22,6 +22,6 @@ pub record ServedOver (s : Setting) (before : Scene) (link : StreamView) (given 
   pub last : Stand
   pub over : RowOver s before (scene last link given) turns end
   pub images : last.footing.told ≡ true → LeavesLeft disk.may_leave last.seen last.left
-  pub tells : disk.tells ≡ last.footing.told
+  pub tells : is_told disk ≡ last.footing.told
   pub cause : 0 < last.stops → Rose last.footing.faults disk.faults
   pub stopped_is : IsTrue stopped ↔ (0 < last.stops)

@@ -2,7 +2,7 @@
 use Rattle.std.specs.Prelude.{◌≡◌, ◌⊎◌, ◌+◌, ◌<◌, ◌≤◌, true, List, length, Option, None, Some, Result, Ok, Err}
 use Rattle.exact_time.specs.Causes.{Rose}
 use Rattle.exact_time.specs.declared.moment.Moment.{Moment}
-use Rattle.disk_model.specs.View.{DiskView, WhereTold}
+use Rattle.disk_model.specs.View.{DiskView, WhereTold, is_told, file_of}
 use Rattle.disk_model.specs.Effects.{WritesNothing}
 use Rattle.archive_log.specs.Histories.{IsHistoryOf}
 use Rattle.archive_log.specs.Opening.{ExplainsStart}
@@ -45,10 +45,10 @@ pub record HasTalked (s : Setting) (before after : Place) (turns : List Turn) (e
   pub last : Stand
   pub fresh : IsFresh first
   pub row : SessionRow (scene first (joined before.source before.sink) before.given) (scene last (joined after.source after.sink) after.given) s turns end
-  pub history : WhereTold before.disk (IsHistoryOf before.disk.content first.seen)
+  pub history : WhereTold before.disk (IsHistoryOf (file_of before.disk) first.seen)
   pub some : 1 ≤ length first.seen
   pub images : WhereTold before.disk (LeavesLeft after.disk.may_leave last.seen last.left)
-  pub tells : after.disk.tells ≡ before.disk.tells
+  pub tells : is_told after.disk ≡ is_told before.disk
   pub stops : 0 < last.stops → Rose before.disk.faults after.disk.faults
 
 -- The archive wasn't opened, for this fault: nothing was read from the source or written on the sink, the clock wasn't
@@ -59,7 +59,7 @@ pub record NotOpened (before after : Place) (trail : Option (List Turn)) (fault 
   pub sink : after.sink ≡ before.sink
   pub given : after.given ≡ before.given
   pub disk : WritesNothing before.disk after.disk (fault ≡ start.DiskFault)
-  pub why : WhereTold before.disk (ExplainsStart before.disk.content fault)
+  pub why : WhereTold before.disk (ExplainsStart (file_of before.disk) fault)
 
 -- a session that ended so, with its turns, in which no command was stopped by the disk
 pub record Calm (s : Setting) (before after : Place) (trail : Option (List Turn)) (end : SessionEnd) : Type 0 where

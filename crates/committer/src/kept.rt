@@ -4,7 +4,7 @@ ghost use Rattle.std.specs.Option.{ForSome};
 ghost use mathlib.Core.List.{IsPrefix};
 ghost use Rattle.core.specs.Mem.{manually_drop_value};
 ghost use Rattle.exact_time.specs.Causes.{Rose};
-ghost use Rattle.disk_model.specs.View.{WhereTold, AlwaysLeaves};
+ghost use Rattle.disk_model.specs.View.{WhereTold, AlwaysLeaves, is_told};
 ghost use Rattle.archive_entry.specs.declared.entry.Entry.{Entry};
 ghost use Rattle.archive_log.specs.Archive.{Stands};
 ghost use Rattle.archive_log.specs.Histories.{RecoversWithOrWithout};
@@ -50,7 +50,7 @@ pub struct Committer<D: Disk, J: Naming, T: Carries<J> + Drop, L: Ledger, S: Led
     pub ghost one: { length (drop (manually_drop_value writer).behind (manually_drop_value writer).log.items ++ option_to_list pending) ≤ 1 },
     pub ghost leads: { fold T.applied front (drop (manually_drop_value writer).behind (manually_drop_value writer).log.items ++ option_to_list pending) ≡ latest },
     // What every run knows of the disk at the opening.
-    pub ghost told_is: { (D.view archive.disk).tells ≡ J.told },
+    pub ghost told_is: { is_told (D.view archive.disk) ≡ J.told },
     pub ghost faults_are: { archive.faults ≡ J.faults },
     // A commit was stopped exactly where some caller was told so.
     pub ghost never: { archive.stopped ≡ false → stops.total ≡ 0 },

@@ -1,7 +1,7 @@
 -- What a crash leaves of a file to which bytes are added and then one byte among them is set.
 use Rattle.std.specs.Prelude.{◌≡◌, ◌⊎◌, ℕ, ◌≤◌, List, [], ◌∷◌, ◌++◌, length, take, Result, IsErr, OnOk}
 use Rattle.disk_model.specs.Disk.{overwritten}
-use Rattle.disk_model.specs.View.{DiskView, IsOnlyImage, AlwaysLeaves, DiskRun}
+use Rattle.disk_model.specs.View.{DiskView, IsOnlyImage, AlwaysLeaves, DiskRun, file_of}
 
 -- the file, and behind it anything, as long as the bytes or shorter
 abbrev pub HasMoreBehind : List ℕ → List ℕ → List ℕ → Type 0
@@ -19,8 +19,8 @@ pub record IsStaged (file bytes : List ℕ) (at : ℕ) (image : List ℕ) : Type
 -- Bytes are added at the end of a synced disk, and then one byte among them is set: at every moment every
 -- image is at one of these stages; and done, the one image is the file with the bytes and that byte.
 pub record IsAddedAndMarked {T E : Type 0} (bytes : List ℕ) (at byte : ℕ) (old new : DiskView) (result : Result T E) : Type 0 where
-  pub any_moment : AlwaysLeaves old new (IsStaged old.content bytes at)
-  pub done : OnOk result (IsOnlyImage new (overwritten (old.content ++ bytes) at (byte ∷ [])))
+  pub any_moment : AlwaysLeaves old new (IsStaged (file_of old) bytes at)
+  pub done : OnOk result (IsOnlyImage new (overwritten (file_of old ++ bytes) at (byte ∷ [])))
 
 -- the run that adds these bytes and sets this byte
 abbrev pub AddsAndMarks : {T E : Type 0} → List ℕ → ℕ → ℕ → DiskView → DiskView → Result T E → Type 0

@@ -1,5 +1,5 @@
 -- What a disk in memory tells, and what one call does to it.
-use Rattle.std.specs.Prelude.{◌≡◌, ℕ, ◌<◌, ◌≤◌, List, [], ◌∷◌, ◌++◌, true}
+use Rattle.std.specs.Prelude.{◌≡◌, ℕ, ◌<◌, ◌≤◌, List, [], ◌∷◌, ◌++◌, Some}
 use Rattle.disk_model.specs.Images.{IsImage}
 use Rattle.disk_model.specs.View.{DiskView}
 use Rattle.disk_model.specs.Changes.{State, at_rest, state_after, changes_in, LeftSince}
@@ -41,8 +41,7 @@ faults_of disk = disk.faults
 -- what is told of it: all
 abbrev pub memory_view : MemoryDisk → DiskView
 memory_view disk = record {
-  tells = true;
-  content = content_of disk;
+  content = Some (content_of disk);
   may_leave = images_now disk;
   moment = moment_of disk;
   left_since = images_since disk;

@@ -1,7 +1,7 @@
 //! A disk: what a read gives, and what a crash may leave.
 ghost use Rattle.std.specs.Prelude.{◌≡◌, ◌+◌, ◌^◌, ◌<◌, ◌≤◌, length, OnOk, IfOk};
 ghost use Rattle.disk_model.specs.Disk.{Gives};
-ghost use Rattle.disk_model.specs.View.{DiskView, WhereTold, IsHonest};
+ghost use Rattle.disk_model.specs.View.{DiskView, WhereTold, IsHonest, file_of};
 ghost use Rattle.disk_model.specs.Effects.{ChangesNothing, WritesInto, ShortensTo, MakesDurable};
 
 use exact_time::Failed;
@@ -26,27 +26,27 @@ pub trait Disk {
     /// The length of the file in bytes, at most 2^63 - 1.
     fn len(&mut self) -> Result<u64, Failed>
         ensures bound { IfOk result (λ len. len < 2 ^ 63) }
-        ensures length { WhereTold (view self.old) (IfOk result (λ len. len ≡ length (view self.old).content)) }
+        ensures length { WhereTold (view self.old) (IfOk result (λ len. len ≡ length (file_of (view self.old)))) }
         ensures call { ChangesNothing (view self.old) (view self.new) result };
 
     /// Gives as many bytes as there are from the offset `at` on, up to the slice.
     fn read(&mut self, at: u64, into: &mut [u8]) -> Result<usize, Failed>
         ensures bound { IfOk result (λ count. count ≤ length into.new) }
-        ensures bytes { WhereTold (view self.old) (IfOk result (λ count. Gives (view self.old).content at count into.new)) }
+        ensures bytes { WhereTold (view self.old) (IfOk result (λ count. Gives (file_of (view self.old)) at count into.new)) }
         ensures call { ChangesNothing (view self.old) (view self.new) result };
 
     /// Writes from the offset `at` on, which is at most the length, over what is there and past the
     /// end, no further than 2^63 - 1. Until a sync, a crash may leave any bytes in the range. A write that
     /// fails may have done any part of it.
     fn write_at(&mut self, at: u64, bytes: &[u8]) -> Result<(), Failed>
-        requires { WhereTold (view self.old) (at ≤ length (view self.old).content) }
+        requires { WhereTold (view self.old) (at ≤ length (file_of (view self.old))) }
         ensures size { OnOk result (at + length bytes.now < 2 ^ 63) }
         ensures call { WritesInto at bytes.now (view self.old) (view self.new) result };
 
     /// Cuts the file to its first `len` bytes, which is at most its length. Until a sync, a crash may
     /// leave it longer. A cut that fails may have done any part of it.
     fn cut(&mut self, len: u64) -> Result<(), Failed>
-        requires { WhereTold (view self.old) (len ≤ length (view self.old).content) }
+        requires { WhereTold (view self.old) (len ≤ length (file_of (view self.old))) }
         ensures { ShortensTo len (view self.old) (view self.new) result };
 
     /// After it, a crash leaves what a read gives. A sync that fails leaves the images as they were, or

@@ -1,6 +1,6 @@
 //! A law of every disk, by a worked run over it.
 ghost use Rattle.std.specs.Prelude.{◌≡◌, ◌+◌, ◌<◌, ◌≤◌, length};
-ghost use Rattle.disk_model.specs.View.{WhereTold, IsSynced};
+ghost use Rattle.disk_model.specs.View.{WhereTold, IsSynced, file_of};
 ghost use Rattle.disk_model.specs.Marked.{AddsAndMarks};
 
 use crate::disk::Disk;
@@ -17,7 +17,7 @@ pub fn add_and_mark<D: Disk>(
     at: u64,
     byte: u8,
 ) -> Result<(), Failed>
-    requires end { WhereTold (D.view disk.old) (end ≡ length (D.view disk.old).content) }
+    requires end { WhereTold (D.view disk.old) (end ≡ length (file_of (D.view disk.old))) }
     requires synced { WhereTold (D.view disk.old) (IsSynced (D.view disk.old)) }
     requires among { (end ≤ at) × (at < end + length bytes.now) }
     ensures { AddsAndMarks bytes.now at byte (D.view disk.old) (D.view disk.new) result }

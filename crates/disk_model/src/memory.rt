@@ -3,6 +3,7 @@ ghost use Rattle.std.specs.Prelude.{◌≡◌, [], ◌<◌, ◌≤◌, ◌^◌, 
 ghost use Rattle.exact_time.specs.Causes.{Rose};
 ghost use Rattle.disk_model.specs.Disk.{Gives, LeavesOnly};
 ghost use Rattle.disk_model.specs.Sound.{IsReplayed, HasRoom, waiting};
+ghost use Rattle.disk_model.specs.View.{is_told};
 
 use crate::change::{Change, Step};
 use crate::choice::Choice;
@@ -43,7 +44,7 @@ impl MemoryDisk {
     /// A disk with this file, all of it synced, which fails at these calls. It takes the room for what
     /// these will leave.
     pub fn new(alloc: Global, bytes: Bytes, fails: Many<u64>) -> Result<Self, OutOfMemory>
-        ensures tells { IfOk result (λ disk. (memory_view disk).tells ≡ true) }
+        ensures tells { IfOk result (λ disk. is_told (memory_view disk) ≡ true) }
         ensures content { IfOk result (λ disk. content_of disk ≡ bytes) }
         ensures synced { IfOk result (λ disk. LeavesOnly (images_now disk) bytes) }
         ensures faults { IfOk result (λ disk. faults_of disk ≡ 0) }

@@ -2,6 +2,7 @@
 ghost use Rattle.std.specs.Prelude.{◌≡◌, length};
 ghost use Rattle.archive_log.specs.Opening.{IsStarted};
 ghost use Rattle.disk_model.specs.Memory.{memory_view};
+ghost use Rattle.disk_model.specs.View.{is_told};
 ghost use Rattle.desk_words.specs.Posting.{can_be_posted};
 
 use archive_entry::{Entry, Kind};
@@ -117,12 +118,16 @@ fn add<R: Wait, K: Desk>(rt: &R, alloc: Global, desk: &mut K, posted: &Posted) -
     }
 }
 
+// Adds the users feed1 and feed2, and the record by feed1.
+fn fill<R: Wait, K: Desk>(rt: &R, alloc: Global, desk: &mut K) -> Result<(), Fail> {
+    add(rt, alloc, desk, &revision(alloc, "op", 1, USERS)?)?;
+    add(rt, alloc, desk, &batch(alloc, "feed1", 1, &anmo_record())?)
+}
+
 // The file of an archive: the founding entry of op, the users feed1 and feed2, and the record by feed1.
 fn archive_file<R: Wait>(rt: &R, alloc: Global) -> Result<Bytes, Fail> {
     let mut desk = desk_of(alloc, founded(alloc)?.as_slice())?;
-    add(rt, alloc, &mut desk, &revision(alloc, "op", 1, USERS)?)?;
-    let record = batch(alloc, "feed1", 1, &anmo_record())?;
-    add(rt, alloc, &mut desk, &record)?;
+    fill(rt, alloc, &mut desk)?;
     Ok(desk.close().image(Choice::Old)?)
 }
 
@@ -248,7 +253,7 @@ fn talk<J: Naming, L: Ledger, S: Ledger, R: Wait + Abort>(
     requires started { IsStarted memory_view archive entries.now admit }
     requires book { opened ≡ J.book }
     requires opening { J.opening ≡ entries.now }
-    requires told { (J.told ≡ (memory_view archive.disk).tells) × (J.faults ≡ archive.faults) }
+    requires told { (J.told ≡ is_told (memory_view archive.disk)) × (J.faults ≡ archive.faults) }
     requires made { (made.name ≡ L.name) × (made.parts ≡ L.parts) × (L.parts ≡ 2) }
     requires halts { (halts.name ≡ S.name) × (halts.parts ≡ S.parts) × (S.parts ≡ 2) }
 {
@@ -445,7 +450,7 @@ fn two_threads<
     requires started { IsStarted memory_view archive entries.now admit }
     requires book { opened ≡ J.book }
     requires opening { J.opening ≡ entries.now }
-    requires told { (J.told ≡ (memory_view archive.disk).tells) × (J.faults ≡ archive.faults) }
+    requires told { (J.told ≡ is_told (memory_view archive.disk)) × (J.faults ≡ archive.faults) }
     requires made { (made.name ≡ L.name) × (made.parts ≡ L.parts) × (L.parts ≡ 2) }
     requires halts { (halts.name ≡ S.name) × (halts.parts ≡ S.parts) × (S.parts ≡ 2) }
 {
@@ -457,18 +462,20 @@ fn two_threads<
         Err((_, fault)) => return Err(fault.into()),
     };
     let (first, second) = threads_at(rt, alloc, &hall, &mut places, firsts, seconds);
-    let disk = hall.close(rt, places);
+    let left = hall.close(rt, places).image(Choice::Old)?;
     let all = Turns {
         accepted: 200,
         fell: false,
     };
-    assert_eq!(rt; (first?, second?), (all, all));
-    Ok(disk.image(Choice::Old)?)
+    assert_eq!(rt; (first, second), (Ok(all), Ok(all)));
+    Ok(left)
 }
 
 #[test]
 fn two_threads_post_and_ask(rt: HostRuntime) -> Result<(), Fail> {
     let alloc = rt.alloc();
+    let firsts = posts_of(alloc, "feed1", 2, 200)?;
+    let seconds = posts_of(alloc, "feed2", 1, 200)?;
     let file = archive_file(&rt, alloc)?;
     let (archive, entries, admit) = match Archive::start(
         alloc,
@@ -477,8 +484,6 @@ fn two_threads_post_and_ask(rt: HostRuntime) -> Result<(), Fail> {
         Ok(started) => started,
         Err((_, fault)) => return Err(fault.into()),
     };
-    let firsts = posts_of(alloc, "feed1", 2, 200)?;
-    let seconds = posts_of(alloc, "feed2", 1, 200)?;
     let left = two_threads::<Brand, Brand, Brand, _>(
         &rt,
         alloc,

@@ -1,6 +1,6 @@
 //! Torn writes, failing calls, a fuse, and a real file.
 ghost use Rattle.std.specs.Prelude.{◌≡◌, false, IfOk};
-ghost use Rattle.disk_model.specs.View.{IsOnlyImage};
+ghost use Rattle.disk_model.specs.View.{IsOnlyImage, is_told, file_of};
 ghost use Rattle.disk_model.specs.Memory.{memory_view};
 
 use disk_model::{Choice, Disk, FileDisk, FuseDisk, MemoryDisk, add_and_mark};
@@ -12,7 +12,7 @@ use std::test::Fail;
 
 // A synced disk with this file, which fails at these calls.
 fn disk_of(alloc: Global, file: &[u8], fails: &[u64]) -> Result<MemoryDisk, OutOfMemory>
-    ensures content { IfOk result (λ disk. (memory_view disk).content ≡ file.now) }
+    ensures content { IfOk result (λ disk. file_of (memory_view disk) ≡ file.now) }
     ensures synced { IfOk result (λ disk. IsOnlyImage (memory_view disk) file.now) }
 {
     let mut bytes = Bytes::new(alloc);
@@ -219,7 +219,7 @@ fn check_file<D: Disk>(rt: &impl Abort, disk: &mut D, wanted: &[u8]) -> Result<(
 
 // Two writes and a sync.
 fn fill_file<D: Disk>(rt: &impl Abort, disk: &mut D) -> Result<(), Failed>
-    requires { (D.view disk.old).tells ≡ false }
+    requires { is_told (D.view disk.old) ≡ false }
 {
     disk.write_at(0, b"abcdef")?;
     disk.write_at(2, b"XY")?;
@@ -229,7 +229,7 @@ fn fill_file<D: Disk>(rt: &impl Abort, disk: &mut D) -> Result<(), Failed>
 
 // A cut, and a write that would end past the greatest length.
 fn cut_file<D: Disk>(rt: &impl Abort, disk: &mut D) -> Result<(), Failed>
-    requires { (D.view disk.old).tells ≡ false }
+    requires { is_told (D.view disk.old) ≡ false }
 {
     disk.cut(3)?;
     disk.sync()?;

@@ -1,9 +1,9 @@
 -- What waits joins what is seen.
-use Rattle.std.proofs.Common.{◌≡◌, ◌∙◌, ◌&&◌, Bool, true, false, List, ◌∷◌, [], ◌++◌, refl, sym, ap, subst, Option, None, Some, option_to_list}
+use Rattle.std.proofs.Common.{◌≡◌, ◌∙◌, ◌&&◌, Bool, true, false, List, ◌∷◌, [], ◌++◌, sym, ap, subst, Option, None, Some, option_to_list}
 use Rattle.std.proofs.lemmas.List.{append-nil}
 use Rattle.archive_entry.specs.declared.entry.Entry.{Entry}
 use Rattle.archive_state.specs.Admits.{IsAdmit, IsNextOf}
-use Rattle.archive_state.specs.Lawful.{IsLawful, is_lawful, is_next}
+use Rattle.archive_state.specs.Lawful.{IsLawful, is_next}
 use Rattle.archive_state.specs.declared.admit.Admit.{Admit}
 use Rattle.archive_state.proofs.Growth.{lawful_more}
 use Rattle.owned_desk.specs.Waiting.{noted_of, waits}

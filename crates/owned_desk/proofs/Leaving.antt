@@ -1,5 +1,5 @@
 -- What a crash leaves of a desk.
-use Rattle.std.proofs.Common.{◌≡◌, ◌∙◌, inl, ℕ, Bool, true, false, List, [], ◌∷◌, ◌++◌, sym, refl, ap, subst, Option, None, Some, is_some, option_to_list, ◌<◌, arith}
+use Rattle.std.proofs.Common.{◌≡◌, ◌∙◌, ℕ, Bool, true, false, List, ◌++◌, sym, refl, ap, subst, Option, None, Some, is_some, option_to_list, ◌<◌, arith}
 use Rattle.std.proofs.lemmas.Bool.{true≢false}
 use Rattle.std.proofs.lemmas.List.{append-nil}
 use Rattle.disk_model.specs.View.{DiskView, AlwaysLeaves}

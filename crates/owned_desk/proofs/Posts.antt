@@ -1,5 +1,5 @@
 -- The entry of an accepted post comes next, and an author's earlier entry stands at its number.
-use Rattle.std.proofs.Common.{◌≡◌, ◌∙◌, ◌==◌, ◌&&◌, ◌||◌, is_some, ℕ, zero, suc, ◌+◌, ◌-◌, ◌≤◌, Bool, true, false, cond, List, [], ◌∷◌, length, Option, None, Some, Result, Ok, Err, refl, sym, ap, subst, arith, find}
+use Rattle.std.proofs.Common.{◌≡◌, ◌∙◌, ◌==◌, ◌&&◌, ◌||◌, is_some, ℕ, zero, suc, ◌-◌, ◌≤◌, Bool, true, false, cond, List, [], ◌∷◌, Option, None, Some, Result, Ok, refl, sym, ap, arith, find}
 use Rattle.std.specs.List.{slice_get}
 use Rattle.exact_time.specs.declared.moment.Moment.{Moment}
 use Rattle.epochs.specs.Kinds.{Text}
@@ -10,7 +10,6 @@ use Rattle.archive_state.specs.Admits.{number_of}
 use Rattle.archive_state.specs.History.{live_of, is_by, earlier_of}
 use Rattle.archive_state.specs.Lawful.{IsLawful, is_accept, is_next}
 use Rattle.archive_state.specs.Verdicts.{command, judged_of, verdict_by, entry_of}
-use Rattle.archive_state.specs.declared.limits.Limits.{Limits}
 use Rattle.archive_state.specs.declared.posted.Posted.{Posted}
 use Rattle.archive_state.specs.declared.verdict.Verdict.{Verdict}
 use Rattle.archive_state.specs.declared.verdict.Verdict.TheVariants.{Accept}

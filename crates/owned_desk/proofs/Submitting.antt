@@ -2,12 +2,11 @@
 use Rattle.std.proofs.Common.{◌≡◌, ◌∙◌, ◌⊎◌, inl, inr, ℕ, ◌+◌, ◌-◌, ◌^◌, ◌≤◌, Bool, true, false, List, [], ◌∷◌, ◌++◌, length, refl, sym, ap, subst, append_assoc, Option, None, Some, Result, Ok, Err, option_to_list, arith}
 use Rattle.std.specs.Result.{IsErrAnd, IsErrOf}
 use Rattle.exact_time.specs.declared.error.OutOfMemory.{OutOfMemory}
-use Rattle.std.specs.Prelude.{min}
 use Rattle.std.proofs.Math.Nat.{min-le_left}
 use Rattle.std.proofs.lemmas.Bool.{true≢false}
 use Rattle.std.proofs.lemmas.List.{append-nil, length_push}
 use mathlib.Core.List.{IsPrefix}
-use Rattle.disk_model.specs.View.{DiskView, WhereTold, AlwaysLeaves}
+use Rattle.disk_model.specs.View.{DiskView, WhereTold, AlwaysLeaves, is_told}
 use Rattle.exact_time.specs.declared.moment.Moment.{Moment}
 use Rattle.archive_entry.specs.declared.entry.Entry.{Entry}
 use Rattle.archive_state.specs.declared.posted.Posted.{Posted}
@@ -223,7 +222,7 @@ pub kept_still : {D : Type 0} (view : D → DiskView) (old new : Archived D) (h 
 kept_still {D} view old new h l e Stops disk faults same rest never = record {
   any_moment = λ told on. still view old.disk new.disk h l e disk same (rest told on e);
   silent = λ _. disk;
-  tells = ap (λ (x : D). (view x).tells) disk;
+  tells = ap (λ (x : D). is_told (view x)) disk;
   opening = faults;
   later = subst (λ (x : D). (view old.disk).faults ≤ (view x).faults) (sym disk) (le (view old.disk).faults);
   cause = λ stops. absurd (never stops);

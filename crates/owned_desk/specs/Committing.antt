@@ -1,7 +1,7 @@
 -- What a call that may commit an entry does to the archive under a desk.
 use Rattle.std.specs.Prelude.{◌≡◌, ◌⊎◌, ◌≤◌, List, Option, None, Some, true, false, ⊤}
 use Rattle.exact_time.specs.Causes.{Rose}
-use Rattle.disk_model.specs.View.{DiskView, WhereTold, AlwaysLeaves}
+use Rattle.disk_model.specs.View.{DiskView, WhereTold, AlwaysLeaves, is_told}
 use Rattle.archive_entry.specs.declared.entry.Entry.{Entry}
 use Rattle.archive_log.specs.Archive.{Archived}
 use Rattle.archive_log.specs.Histories.{RecoversWithOrWithout}
@@ -17,7 +17,7 @@ first_hand (Some hand) e = Some hand
 pub record Commits {D : Type 0} (view : D → DiskView) (old new : Archived D) (h : List Entry) (e : Entry) (Stopped : Type 0) : Type 0 where
   pub any_moment : WhereTold (view old.disk) (old.stopped ≡ false → AlwaysLeaves (view old.disk) (view new.disk) (RecoversWithOrWithout h e))
   pub silent : old.stopped ≡ true → new.disk ≡ old.disk
-  pub tells : (view new.disk).tells ≡ (view old.disk).tells
+  pub tells : is_told (view new.disk) ≡ is_told (view old.disk)
   pub opening : new.faults ≡ old.faults
   pub later : (view old.disk).faults ≤ (view new.disk).faults
   pub cause : Stopped → Rose (view old.disk).faults (view new.disk).faults ⊎ Rose old.faults (view old.disk).faults

@@ -1,5 +1,5 @@
 -- What an owned desk stands for, and what its disk holds.
-use Rattle.std.specs.Prelude.{ℕ, Bool, true, List, [], ◌∷◌, ◌++◌, Option, None, Some, Result, Ok, Err}
+use Rattle.std.specs.Prelude.{ℕ, Bool, true, List, [], ◌∷◌, ◌++◌, Option, None, Some}
 use Rattle.disk_model.specs.Disk.{Leaves}
 use Rattle.archive_entry.specs.declared.entry.Entry.{Entry}
 use Rattle.archive_log.specs.Histories.{Recovers, RecoversWithOrWithout}

@@ -1,7 +1,7 @@
 //! Opens and closes a desk of one owner.
 ghost use Rattle.std.specs.Prelude.{◌≡◌, ◌++◌, ◌<◌, ◌≤◌, true, false, [], List, length, None, Some, OnOk, IfOk, IfErr, option_to_list};
 ghost use Rattle.exact_time.specs.Causes.{Rose};
-ghost use Rattle.disk_model.specs.View.{WhereTold, AlwaysLeaves};
+ghost use Rattle.disk_model.specs.View.{WhereTold, AlwaysLeaves, file_of};
 ghost use Rattle.disk_model.specs.Effects.{WritesNothing};
 ghost use Rattle.archive_entry.specs.declared.entry.Entry.{Entry};
 ghost use Rattle.archive_state.specs.Admits.{IsAdmit};
@@ -65,12 +65,12 @@ impl<D: Disk> OwnedDesk<D> {
     /// Opens the archive that a disk holds, after a crash too: what is seen is the history that the file's bytes spell,
     /// and nothing is left. It gives the disk no write and no cut: the disk reads as before.
     pub fn start(alloc: Global, disk: D) -> Result<OwnedDesk<D>, (D, StartFault)>
-        ensures seen { WhereTold (D.view disk) (IfOk result (λ d. IsHistoryOf (D.view disk).content d.state)) }
+        ensures seen { WhereTold (D.view disk) (IfOk result (λ d. IsHistoryOf (file_of (D.view disk)) d.state)) }
         ensures some { IfOk result (λ d. 1 ≤ length d.state) }
         ensures left { IfOk result (λ d. (d.short ≡ None) × (d.archive.hand ≡ None) × (d.stops ≡ 0)) }
         ensures opened { IfOk result (λ d. d.archive.faults ≤ (D.view d.archive.disk).faults) }
         ensures since { IfOk result (λ d. (D.view disk).faults ≤ d.archive.faults) }
-        ensures fault { WhereTold (D.view disk) (IfErr result (λ refused. ExplainsStart (D.view disk).content refused.1)) }
+        ensures fault { WhereTold (D.view disk) (IfErr result (λ refused. ExplainsStart (file_of (D.view disk)) refused.1)) }
         ensures kept { IfOk result (λ d. WritesNothing (D.view disk) (D.view d.archive.disk) ⊥) }
         ensures refused { IfErr result (λ refused. WritesNothing (D.view disk) (D.view refused.0) (refused.1 ≡ StartFault.DiskFault)) }
     {

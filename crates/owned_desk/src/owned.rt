@@ -1,7 +1,7 @@
 //! Asks and submits.
 ghost use Rattle.std.specs.Prelude.{◌≡◌, ◌⊎◌, ◌≤◌, ◌<◌, ◌+◌, ◌++◌, [], ◌∷◌, ℕ, List, length, true, false, None, Some, Option, OnErr, OnOk, IsErr, IsErrOf, option_to_list};
 ghost use Rattle.exact_time.specs.Causes.{Rose};
-ghost use Rattle.disk_model.specs.View.{WhereTold, AlwaysLeaves, DiskRun};
+ghost use Rattle.disk_model.specs.View.{WhereTold, AlwaysLeaves, DiskRun, is_told};
 ghost use Rattle.archive_entry.specs.Spelling.{spelling};
 ghost use Rattle.archive_entry.specs.declared.entry.Entry.{Entry};
 ghost use Rattle.archive_state.specs.Admits.{IsAdmit, IsNextOf};
@@ -147,7 +147,7 @@ impl<D: Disk> OwnedDesk<D> {
 }
 
 impl<D: Disk> Desk for OwnedDesk<D> {
-    ghost stand = { λ d. stand_as (D.view d.archive.disk).tells d.archive.faults d.state d.stops d.caught d.made d.short d.archive.hand };
+    ghost stand = { λ d. stand_as (is_told (D.view d.archive.disk)) d.archive.faults d.state d.stops d.caught d.made d.short d.archive.hand };
 
     ghost lawful = { λ d. d.lawful };
 
@@ -175,8 +175,8 @@ impl<D: Disk> Desk for OwnedDesk<D> {
         limits: &Limits,
     ) -> Result<Submitted, SubmitFault>
         requires { can_be_posted posted.now moment ≡ true }
-        ensures row { Submits (stand_as (D.view self.old.archive.disk).tells self.old.archive.faults self.old.state self.old.stops self.old.caught self.old.made self.old.short self.old.archive.hand)
-            (stand_as (D.view self.new.archive.disk).tells self.new.archive.faults self.new.state self.new.stops self.new.caught self.new.made self.new.short self.new.archive.hand) posted.now moment (setting secret.now limits.now) result }
+        ensures row { Submits (stand_as (is_told (D.view self.old.archive.disk)) self.old.archive.faults self.old.state self.old.stops self.old.caught self.old.made self.old.short self.old.archive.hand)
+            (stand_as (is_told (D.view self.new.archive.disk)) self.new.archive.faults self.new.state self.new.stops self.new.caught self.new.made self.new.short self.new.archive.hand) posted.now moment (setting secret.now limits.now) result }
         // It stops exactly once in a call that answers so, and in no other.
         ensures stopped { IsErrOf result SubmitFault.Stopped → RoseWithin 1 1 self.old.stops self.new.stops }
         ensures judged { OnOk result (self.new.stops ≡ self.old.stops) }
@@ -213,8 +213,8 @@ impl<D: Disk> Desk for OwnedDesk<D> {
     }
 
     fn catch_up<R: Wait>(&mut self, _rt: &R)
-        ensures row { CatchesUp (stand_as (D.view self.old.archive.disk).tells self.old.archive.faults self.old.state self.old.stops self.old.caught self.old.made self.old.short self.old.archive.hand)
-            (stand_as (D.view self.new.archive.disk).tells self.new.archive.faults self.new.state self.new.stops self.new.caught self.new.made self.new.short self.new.archive.hand) }
+        ensures row { CatchesUp (stand_as (is_told (D.view self.old.archive.disk)) self.old.archive.faults self.old.state self.old.stops self.old.caught self.old.made self.old.short self.old.archive.hand)
+            (stand_as (is_told (D.view self.new.archive.disk)) self.new.archive.faults self.new.state self.new.stops self.new.caught self.new.made self.new.short self.new.archive.hand) }
         ensures stops { self.new.stops ≡ self.old.stops }
         ensures archive { self.new.archive ≡ self.old.archive }
     {

@@ -1,7 +1,7 @@
 //! Starts a hall.
 ghost use Rattle.std.specs.Prelude.{◌≡◌, ◌++◌, ◌∷◌, [], ◌+◌, ◌≤◌, false, List, length, IfOk, IfErr, IfSome};
 ghost use Rattle.std.specs.List.{AllByRecursion};
-ghost use Rattle.disk_model.specs.View.{WhereTold};
+ghost use Rattle.disk_model.specs.View.{WhereTold, is_told};
 ghost use Rattle.archive_entry.specs.declared.entry.Entry.{Entry};
 ghost use Rattle.archive_state.specs.Admits.{IsAdmit};
 ghost use Rattle.archive_log.specs.Opening.{IsStarted};
@@ -75,7 +75,7 @@ fn over<D: Disk, J: Naming, T: Carries<J> + Drop, L: Ledger, S: Ledger, R: Wait>
     requires admits { IsAdmit admit latest }
     requires counted { archive.count ≡ length latest }
     requires history { WhereTold (D.view archive.disk) (archive.history ≡ latest) }
-    requires told { (J.told ≡ (D.view archive.disk).tells) × (J.faults ≡ archive.faults) }
+    requires told { (J.told ≡ is_told (D.view archive.disk)) × (J.faults ≡ archive.faults) }
     requires running { archive.stopped ≡ false }
     requires copies { (T.state copies.0 ≡ latest) × (T.state copies.1 ≡ latest) }
     ensures count { IfOk result (λ hall. length hall.1.items ≡ count) }
@@ -153,7 +153,7 @@ impl<D: Disk, J: Naming, L: Ledger, S: Ledger> Hall<D, J, HeldState<J>, L, S> {
         requires started { IsStarted D.view archive entries.now admit }
         requires book { opened ≡ J.book }
         requires opening { J.opening ≡ entries.now }
-        requires told { (J.told ≡ (D.view archive.disk).tells) × (J.faults ≡ archive.faults) }
+        requires told { (J.told ≡ is_told (D.view archive.disk)) × (J.faults ≡ archive.faults) }
         requires made { (made.name ≡ L.name) × (made.parts ≡ L.parts) × (L.parts ≡ count) }
         requires halts { (halts.name ≡ S.name) × (halts.parts ≡ S.parts) × (S.parts ≡ count) }
         requires count { (1 ≤ count) × (count ≤ 16) }

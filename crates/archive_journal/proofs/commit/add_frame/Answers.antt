@@ -1,6 +1,7 @@
 use Rattle.std.proofs.Common.{◌∙◌, inl, ℕ, ◌+◌, List, [], ◌∷◌, ◌++◌, length, arith, refl, rules}
 use Rattle.disk_model.specs.Disk.{Torn, Leaves}
 use Rattle.disk_model.proofs.Moments.{weakened, and_then}
+use Rattle.disk_model.specs.View.{file_of}
 use Rattle.archive_journal.specs.Frames.{body_of, closed_gate}
 use Rattle.archive_journal.specs.Journal.{IsJournalWithOrWithout}
 use Rattle.archive_journal.proofs.Adding.{brought, opening}
@@ -20,9 +21,9 @@ returns-in_err-bring-clause-call g c =
       told = λ told. record {
         written = search rules;
         durable = search rules;
-        any_moment = λ payloads journal is_end. weakened old new (Torn (c.args.gate + 1) n old.content) (IsJournalWithOrWithout payloads p)
-            (λ image torn. inl (brought payloads old.content journal c.args.gate is_end n image torn)) (call.told told).any_moment;
-        now = λ payloads journal is_end image left. inl (brought payloads old.content journal c.args.gate is_end n image ((call.told told).now image left));
+        any_moment = λ payloads journal is_end. weakened old new (Torn (c.args.gate + 1) n (file_of old)) (IsJournalWithOrWithout payloads p)
+            (λ image torn. inl (brought payloads (file_of old) journal c.args.gate is_end n image torn)) (call.told told).any_moment;
+        now = λ payloads journal is_end image left. inl (brought payloads (file_of old) journal c.args.gate is_end n image ((call.told told).now image left));
       };
     }
 
@@ -47,9 +48,9 @@ returns-clause-call g c =
             durable = opens_it.durable;
             any_moment = λ payloads journal is_end.
                 let P : List ℕ → Type 0 = IsJournalWithOrWithout payloads p in
-                let bringing : Leaves (Torn (gate + 1) n old.content) P = λ image torn. inl (brought payloads old.content journal gate is_end n image torn) in
-                let opens : Leaves (Torn gate 1 mid.content) P = λ image torn. opening payloads old.content journal gate is_end p mid.content image c.bring.ensures.sized bring.written torn in
-                and_then old mid new P (weakened old mid (Torn (gate + 1) n old.content) P bringing bring.any_moment) (weakened mid new (Torn gate 1 mid.content) P opens opens_it.any_moment);
-            now = λ payloads journal is_end image left. opening payloads old.content journal gate is_end p mid.content image c.bring.ensures.sized bring.written (opens_it.now image left);
+                let bringing : Leaves (Torn (gate + 1) n (file_of old)) P = λ image torn. inl (brought payloads (file_of old) journal gate is_end n image torn) in
+                let opens : Leaves (Torn gate 1 (file_of mid)) P = λ image torn. opening payloads (file_of old) journal gate is_end p (file_of mid) image c.bring.ensures.sized bring.written torn in
+                and_then old mid new P (weakened old mid (Torn (gate + 1) n (file_of old)) P bringing bring.any_moment) (weakened mid new (Torn gate 1 (file_of mid)) P opens opens_it.any_moment);
+            now = λ payloads journal is_end image left. opening payloads (file_of old) journal gate is_end p (file_of mid) image c.bring.ensures.sized bring.written (opens_it.now image left);
           };
     }

@@ -1,6 +1,7 @@
 use Rattle.std.proofs.Common.{◌∙◌, ◌≤◌, ◌<◌, ap, sym, subst, arith, refl, ℕ, List, length, drop, Option, Ok, IfSome}
 use Rattle.disk_model.specs.Effects.{IsOnlyRead}
 use Rattle.disk_model.proofs.Runs.{no_read, run_on, only_read_on}
+use Rattle.disk_model.specs.View.{file_of}
 use Rattle.archive_journal.specs.Recovery.{IsWalked, IsNext}
 use Rattle.archive_journal.proofs.Walking.{walk_begins, walk_on}
 use Rattle.archive_journal.proofs.recover.walk.Goals as goal
@@ -11,7 +12,7 @@ gates-init g c =
     let view = g.D.Disk.view disk in
     record {
       read = record { tells = refl; later = omega arith; cause = λ failed. absurd failed; told = λ told. no_read view (g.met.D.Disk.honest disk told) };
-      walked = λ told. subst (λ (l : List ℕ). IsWalked view.content l 16) (sym c.new-offsets.ensures.items) (walk_begins view.content (c.requires.magic told).begins);
+      walked = λ told. subst (λ (l : List ℕ). IsWalked (file_of view) l 16) (sym c.new-offsets.ensures.items) (walk_begins (file_of view) (c.requires.magic told).begins);
       fits = omega arith;
     }
 
@@ -31,6 +32,6 @@ gates-preserved g c =
           let is_len = c.requires.len.1 told ∙ ap length (sym same) in
           let here = c.in_ok-next.ensures.next (so_far.tells ∙ told) is_len in
           let frame = subst (λ (x : List ℕ × Option ℕ). IsNext (drop at x.0) at (Ok x.1)) (λ i. (same i, c.in-Some.is i)) here in
-          walk_on old.content c.gates.offsets.items at (c.gates.invariant.walked told) next c.push.new.self.items frame c.in_ok-push.ensures.items;
+          walk_on (file_of old) c.gates.offsets.items at (c.gates.invariant.walked told) next c.push.new.self.items frame c.in_ok-push.ensures.items;
       fits = omega (arith, bound);
     }

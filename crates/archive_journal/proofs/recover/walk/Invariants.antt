@@ -1,5 +1,5 @@
 use Rattle.std.proofs.Common.{◌^◌, ◌<◌, ◌-◌}
-use Rattle.disk_model.specs.View.{WhereTold}
+use Rattle.disk_model.specs.View.{WhereTold, file_of}
 use Rattle.disk_model.specs.Effects.{OnlyReads}
 use Rattle.archive_journal.specs.Recovery.{IsWalked}
 use Rattle.archive_journal.proofs.recover.walk.Given as goal
@@ -10,7 +10,7 @@ invariant-gates g l =
     let view = g.D.Disk.view in
     record {
       read : OnlyReads (view l.fn.disk) (view l.disk) ⊥;
-      walked : WhereTold (view l.fn.disk) (IsWalked (view l.fn.disk).content l.offsets.items l.at);
+      walked : WhereTold (view l.fn.disk) (IsWalked (file_of (view l.fn.disk)) l.offsets.items l.at);
       fits : l.at < 2 ^ 63;
     }
 

@@ -2,7 +2,7 @@ use Rattle.std.proofs.Common.{◌≡◌, ◌∙◌, ◌≤◌, List, length, map
 use Rattle.archive_entry.specs.declared.entry.Entry.{Entry}
 use Rattle.archive_log.specs.Histories.{IsHistoryOf}
 use Rattle.archive_log.specs.declared.fault.StartFault.TheVariants.{DiskFault}
-use Rattle.disk_model.specs.View.{WhereTold}
+use Rattle.disk_model.specs.View.{WhereTold, file_of}
 use Rattle.desk_words.specs.Setting.{setting}
 use Rattle.centre_serve.proofs.Opening.{opened_row, refused_row, refailed}
 use Rattle.centre_serve.proofs.Whole.{map_map}
@@ -51,7 +51,7 @@ returns g c =
     let started = c.in-Ok.started in
     let opening = c.in-Ok.ensures in
     let same = c.as_slice.ensures in
-    let history = subst (λ (l : List Entry). WhereTold (view c.args.disk) (IsHistoryOf (view c.args.disk).content l)) (sym same) opening.history in
+    let history = subst (λ (l : List Entry). WhereTold (view c.args.disk) (IsHistoryOf (file_of (view c.args.disk)) l)) (sym same) opening.history in
     let some = subst (λ (l : List Entry). 1 ≤ length l) (sym same) opening.started.some in
     record {
       row =

@@ -1,6 +1,6 @@
 use Rattle.std.proofs.Common.{◌≡◌, ◌∙◌, ◌++◌, ◌∷◌, [], List, ℕ, length, Result, Ok, Err, OnOk, ap, arith, refl, rules}
 use Rattle.disk_model.specs.Disk.{overwritten, Torn, Leaves}
-use Rattle.disk_model.specs.View.{IsSynced, IsOnlyImage}
+use Rattle.disk_model.specs.View.{IsSynced, IsOnlyImage, file_of}
 use Rattle.disk_model.specs.Marked.{IsStaged}
 use Rattle.disk_model.proofs.Moments.{weakened, and_then}
 use Rattle.disk_model.proofs.Marking.{staged_by_adding, staged_by_marking, added}
@@ -21,8 +21,8 @@ returns-in_err-write_through g c =
       later = call.later;
       cause = λ failed. call.cause refl;
       told = λ told. record {
-        any_moment = weakened old new (Torn c.args.end (length c.args.bytes.now) old.content) (IsStaged old.content c.args.bytes.now c.args.at)
-            (staged_by_adding old.content c.args.bytes.now c.args.end c.args.at (c.requires.end told)) (call.told told).any_moment;
+        any_moment = weakened old new (Torn c.args.end (length c.args.bytes.now) (file_of old)) (IsStaged (file_of old) c.args.bytes.now c.args.at)
+            (staged_by_adding (file_of old) c.args.bytes.now c.args.end c.args.at (c.requires.end told)) (call.told told).any_moment;
         done = search rules;
       };
     }
@@ -35,8 +35,8 @@ returns g c =
     let first = c.in_ok-write_through.ensures.call in
     let second = c.write_through-2.ensures.call in
     let bytes = c.args.bytes.now in
-    let P : List ℕ → Type 0 = IsStaged old.content bytes c.args.at in
-    let marked = overwritten (old.content ++ bytes) c.args.at (c.args.byte ∷ []) in
+    let P : List ℕ → Type 0 = IsStaged (file_of old) bytes c.args.at in
+    let marked = overwritten (file_of old ++ bytes) c.args.at (c.args.byte ∷ []) in
     record {
       tells = second.tells ∙ first.tells;
       later = omega (arith, first.later, second.later);
@@ -44,13 +44,13 @@ returns g c =
       told = λ told.
           let mid_told = first.tells ∙ told in
           let is_end = c.requires.end told in
-          let adding : Leaves (Torn c.args.end (length bytes) old.content) P = staged_by_adding old.content bytes c.args.end c.args.at is_end in
-          let marking : Leaves (Torn c.args.at 1 mid.content) P = λ image torn. staged_by_marking old.content bytes c.args.end c.args.at is_end mid.content image c.requires.among.0 c.requires.among.1 (first.told told).written torn in
-          let whole : mid.content ≡ old.content ++ bytes = (first.told told).written ∙ added old.content bytes c.args.end c.args.at is_end in record {
+          let adding : Leaves (Torn c.args.end (length bytes) (file_of old)) P = staged_by_adding (file_of old) bytes c.args.end c.args.at is_end in
+          let marking : Leaves (Torn c.args.at 1 (file_of mid)) P = λ image torn. staged_by_marking (file_of old) bytes c.args.end c.args.at is_end (file_of mid) image c.requires.among.0 c.requires.among.1 (first.told told).written torn in
+          let whole : file_of mid ≡ file_of old ++ bytes = (first.told told).written ∙ added (file_of old) bytes c.args.end c.args.at is_end in record {
             any_moment = and_then old mid new P
-                (weakened old mid (Torn c.args.end (length bytes) old.content) P adding (first.told told).any_moment)
-                (weakened mid new (Torn c.args.at 1 mid.content) P marking (second.told mid_told).any_moment);
-            done = at_ok (new.content ≡ overwritten mid.content c.args.at (c.args.byte ∷ [])) (IsSynced new) (IsOnlyImage new marked) c.write_through-2.result
+                (weakened old mid (Torn c.args.end (length bytes) (file_of old)) P adding (first.told told).any_moment)
+                (weakened mid new (Torn c.args.at 1 (file_of mid)) P marking (second.told mid_told).any_moment);
+            done = at_ok (file_of new ≡ overwritten (file_of mid) c.args.at (c.args.byte ∷ [])) (IsSynced new) (IsOnlyImage new marked) c.write_through-2.result
                 (λ is only image left. only image left ∙ is ∙ ap (λ (l : List ℕ). overwritten l c.args.at (c.args.byte ∷ [])) whole)
                 (second.told mid_told).written (second.told mid_told).durable;
           };

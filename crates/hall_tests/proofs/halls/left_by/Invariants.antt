@@ -1,9 +1,10 @@
 use Rattle.disk_model.specs.Memory.{memory_view}
+use Rattle.disk_model.specs.View.{is_told}
 use Rattle.hall_tests.proofs.halls.left_by.Given as goal
 
 -- the archive that was opened
 abbrev pub ghosts-talk-J-Naming : goal.ghosts-talk-J-Naming
-ghosts-talk-J-Naming g a = record { book = a.opened; opening = a.entries.now; told = (memory_view a.archive.disk).tells; faults = a.archive.faults }
+ghosts-talk-J-Naming g a = record { book = a.opened; opening = a.entries.now; told = is_told (memory_view a.archive.disk); faults = a.archive.faults }
 
 -- the blank ledgers
 abbrev pub ghosts-talk-L-Ledger : goal.ghosts-talk-L-Ledger

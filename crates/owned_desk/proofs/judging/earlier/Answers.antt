@@ -1,9 +1,7 @@
-use Rattle.std.proofs.Common.{rules, ◌≡◌, ◌∙◌, ◌-◌, List, Some, ap, sym}
+use Rattle.std.proofs.Common.{rules, ◌∙◌, ◌-◌, List, Some, ap, sym}
 use Rattle.std.specs.List.{slice_get}
 use Rattle.std.proofs.lemmas.Option.{slice_get-get_or, slice_get_past}
 use Rattle.archive_entry.specs.declared.entry.Entry.{Entry}
-use Rattle.archive_state.specs.Admits.{number_of}
-use Rattle.archive_state.specs.History.{earlier_of}
 use Rattle.owned_desk.proofs.Posts.{earlier_there, earlier_some}
 use Rattle.owned_desk.proofs.judging.earlier.Goals as goal
 

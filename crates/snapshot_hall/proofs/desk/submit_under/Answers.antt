@@ -1,4 +1,4 @@
-use Rattle.std.proofs.Common.{◌≡◌, ◌∙◌, ℕ, List, sym, subst}
+use Rattle.std.proofs.Common.{◌∙◌, ℕ, List, sym, subst}
 use mathlib.Core.List.{IsPrefix}
 use Rattle.archive_entry.specs.declared.entry.Entry.{Entry}
 use Rattle.desk_words.specs.Setting.{setting}

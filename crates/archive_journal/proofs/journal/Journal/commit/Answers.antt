@@ -1,5 +1,5 @@
 use Rattle.std.proofs.Common.{◌≡◌, ◌∙◌, ◌+◌, ◌-◌, sym, subst, arith, true, false, ℕ, length, refl, Result, Ok, IsErr, vec_len, vec_capacity}
-use Rattle.disk_model.specs.View.{DiskRun}
+use Rattle.disk_model.specs.View.{DiskRun, is_told, file_of}
 use Rattle.archive_journal.specs.Journal.{Opened, IsCommit, first_payloads, IsOpenJournal}
 use Rattle.archive_journal.specs.declared.fault.DiskFault.{DiskFault}
 use Rattle.archive_journal.proofs.Kept.{kept_halted, kept_running, found_added}
@@ -12,10 +12,10 @@ invariant_of-self g c =
     let j = c.self.inside in
     let old = g.D.Disk.view j.disk in
     let new = g.D.Disk.view c.add_frame.new.disk in
-    let ps = first_payloads (length j.offsets.items) old.content in
+    let ps = first_payloads (length j.offsets.items) (file_of old) in
     let call = c.in_err-add_frame.ensures.call in
-    let told = λ (tells : new.tells ≡ true). sym call.tells ∙ tells in
-    let settled = λ (tells : new.tells ≡ true). c.self.invariant.settled (told tells) c.if-self.false in
+    let told = λ (tells : is_told new ≡ true). sym call.tells ∙ tells in
+    let settled = λ (tells : is_told new ≡ true). c.self.invariant.settled (told tells) c.if-self.false in
     kept_halted new j.faults j.offsets.items j.end c.self.invariant.fits (g.met.D.Disk.honest c.add_frame.new.disk) ps c.args.frame.now
     (λ tells. (settled tells).placed)
     (λ tells. (call.told (told tells)).now ps (settled tells).journal (settled tells).placed.end_is)
@@ -40,13 +40,13 @@ invariant_of-self-2 g c =
     let old = g.D.Disk.view j.disk in
     let new = g.D.Disk.view c.add_frame.new.disk in
     let offsets = c.push_reserved.new.self.items in
-    let ps = first_payloads (length j.offsets.items) old.content in
+    let ps = first_payloads (length j.offsets.items) (file_of old) in
     let call = c.in_ok-add_frame.ensures.call in
-    let told = λ (tells : new.tells ≡ true). sym call.tells ∙ tells in
+    let told = λ (tells : is_told new ≡ true). sym call.tells ∙ tells in
     let size : j.end + c.size.result ≡ j.end + (length p + 5) = omega (arith, c.size.ensures) in
     subst (λ (e : ℕ). IsOpenJournal new j.faults offsets e false) (sym size)
     (kept_running new j.faults offsets (j.end + (length p + 5)) (omega (arith, c.in_ok-add_frame.ensures.size))
-    (λ tells. found_added old ps j.offsets.items j.end (c.self.invariant.settled (told tells) c.if-self.false) p new.content offsets c.add_frame.ensures.sized (call.told (told tells)).written c.push_reserved.ensures.items)
+    (λ tells. found_added old ps j.offsets.items j.end (c.self.invariant.settled (told tells) c.if-self.false) p (file_of new) offsets c.add_frame.ensures.sized (call.told (told tells)).written c.push_reserved.ensures.items)
     (λ tells. (call.told (told tells)).durable)
     (omega (arith, call.later, c.self.invariant.later)))
 

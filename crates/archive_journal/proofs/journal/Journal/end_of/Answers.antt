@@ -1,7 +1,7 @@
 use Rattle.std.proofs.Common.{◌≡◌, ◌∙◌, ◌-◌, ◌+◌, ap, subst, arith, length, take, sym, List, ℕ}
 use Rattle.std.proofs.lemmas.List.{take_all}
 use Rattle.archive_journal.specs.Frames.{front_of}
-use Rattle.disk_model.specs.View.{WhereTold}
+use Rattle.disk_model.specs.View.{WhereTold, file_of}
 use Rattle.archive_journal.specs.Journal.{Opened, gate_of, first_payloads}
 use Rattle.archive_journal.proofs.FrameLists.{gate_at}
 use Rattle.archive_journal.proofs.Kept.{placed_now, count_now}
@@ -11,7 +11,7 @@ pub returns-then-n-len : goal.returns-then-n-len
 returns-then-n-len g c =
     let d = g.D.Disk in
     let j = c.self.inside in
-    let payloads = first_payloads (length j.offsets.items) ((d.view j.disk).content) in
+    let payloads = first_payloads (length j.offsets.items) (file_of (d.view j.disk)) in
     subst (λ (v : Opened g.row.D.Denot). WhereTold (d.view v.disk) (c.index.result.now ≡ gate_of v.payloads (c.args.n + 1))) c.self.view_is
     (λ tells.
     let count = count_now (d.view j.disk) j.faults j.offsets.items j.end j.stopped c.self.invariant tells in
@@ -23,7 +23,7 @@ pub returns-else-n-len : goal.returns-else-n-len
 returns-else-n-len g c =
     let d = g.D.Disk in
     let j = c.self.inside in
-    let payloads = first_payloads (length j.offsets.items) ((d.view j.disk).content) in
+    let payloads = first_payloads (length j.offsets.items) (file_of (d.view j.disk)) in
     subst (λ (v : Opened g.row.D.Denot). WhereTold (d.view v.disk) (j.end ≡ gate_of v.payloads (c.args.n + 1))) c.self.view_is
     (λ tells.
     let count = count_now (d.view j.disk) j.faults j.offsets.items j.end j.stopped c.self.invariant tells in

@@ -1,5 +1,5 @@
 use Rattle.std.proofs.Common.{◌≡◌, ◌∙◌, ◌<◌, ◌-◌, ap, subst, arith, length}
-use Rattle.disk_model.specs.View.{WhereTold}
+use Rattle.disk_model.specs.View.{WhereTold, file_of}
 use Rattle.archive_journal.specs.Journal.{Opened, gate_of, first_payloads}
 use Rattle.archive_journal.proofs.FrameLists.{gate_at}
 use Rattle.archive_journal.proofs.Kept.{placed_now, count_now}
@@ -9,7 +9,7 @@ pub returns : goal.returns
 returns g c =
     let d = g.D.Disk in
     let j = c.self.inside in
-    let payloads = first_payloads (length j.offsets.items) ((d.view j.disk).content) in
+    let payloads = first_payloads (length j.offsets.items) (file_of (d.view j.disk)) in
     subst (λ (v : Opened g.row.D.Denot). WhereTold (d.view v.disk) (c.index.result.now ≡ gate_of v.payloads c.args.n)) c.self.view_is
     (λ tells.
     let count = count_now (d.view j.disk) j.faults j.offsets.items j.end j.stopped c.self.invariant tells in

@@ -1,7 +1,7 @@
 use Rattle.std.proofs.Common.{◌≡◌, ◌∙◌, ◌<◌, ◌-◌, ◌+◌, ap, subst, arith, length, take, drop, sym, List, ℕ, OnOk, Some, slice_get}
 use Rattle.std.proofs.lemmas.Result.{on_ok_weaker}
 use Rattle.archive_journal.specs.Frames.{front_of}
-use Rattle.disk_model.specs.View.{WhereTold}
+use Rattle.disk_model.specs.View.{WhereTold, file_of}
 use Rattle.archive_journal.specs.Journal.{Opened, gate_of, first_payloads}
 use Rattle.archive_journal.proofs.Entries.{payload_at, head_fits}
 use Rattle.archive_journal.proofs.Kept.{count_now, file_now, kept_read}
@@ -18,7 +18,7 @@ returns-clause-payload g c =
     let j = c.self.inside in
     let n = c.args.n in
     let k = n - 1 in
-    let ps = first_payloads (length j.offsets.items) (d.view j.disk).content in
+    let ps = first_payloads (length j.offsets.items) (file_of (d.view j.disk)) in
     let start = c.saturating_add-start.result in
     let len = c.saturating_sub-len.result in
     subst (λ (v : Opened g.row.D.Denot). WhereTold (d.view v.disk) (OnOk c.read_bytes.result (slice_get v.payloads k ≡ Some c.read_bytes.new.buffer.items))) c.self.view_is

@@ -1,4 +1,4 @@
-use Rattle.std.proofs.Common.{◌≡◌, ◌∙◌, ◌++◌, ◌∷◌, [], ◌+◌, ◌*◌, List, ℕ, Some, ap, arith}
+use Rattle.std.proofs.Common.{◌≡◌, ◌∙◌, ◌++◌, ◌∷◌, [], ◌+◌, ◌*◌, List, ap, arith}
 use Rattle.access_digest.specs.Who.{ha1_of}
 use Rattle.epochs.specs.Lines.{LineValues}
 use Rattle.archive_entry.specs.declared.entry.Entry.{Entry}

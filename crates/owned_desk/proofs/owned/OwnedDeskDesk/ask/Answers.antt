@@ -1,4 +1,5 @@
 use Rattle.std.proofs.Common.{length}
+use Rattle.disk_model.specs.View.{is_told}
 use Rattle.desk_words.specs.Setting.{setting}
 use Rattle.owned_desk.specs.Owned.{stand_as}
 use Rattle.owned_desk.proofs.Submitting.{refused_ask, told_ask}
@@ -7,10 +8,10 @@ use Rattle.owned_desk.proofs.owned.OwnedDeskDesk.ask.Goals as goal
 pub returns-in_err-told : goal.returns-in_err-told
 returns-in_err-told g c =
     let s = c.args.self.now in
-    refused_ask (stand_as (g.D.Disk.view s.archive.disk).tells s.archive.faults s.state s.stops s.caught s.made s.short s.archive.hand) c.args.question.now (setting c.args.secret.now c.args.limits.now) c.from_residual.result _ c.from_residual.ensures.1
+    refused_ask (stand_as (is_told (g.D.Disk.view s.archive.disk)) s.archive.faults s.state s.stops s.caught s.made s.short s.archive.hand) c.args.question.now (setting c.args.secret.now c.args.limits.now) c.from_residual.result _ c.from_residual.ensures.1
 
 pub returns : goal.returns
 returns g c =
     let s = c.args.self.now in
-    told_ask (stand_as (g.D.Disk.view s.archive.disk).tells s.archive.faults s.state s.stops s.caught s.made s.short s.archive.hand) c.args.question.now (setting c.args.secret.now c.args.limits.now) _
+    told_ask (stand_as (is_told (g.D.Disk.view s.archive.disk)) s.archive.faults s.state s.stops s.caught s.made s.short s.archive.hand) c.args.question.now (setting c.args.secret.now c.args.limits.now) _
     (λ i. record { front = length (c.entries.ensures i); outcome = c.in_ok-told.ensures i })

@@ -1,4 +1,5 @@
-use Rattle.std.proofs.Common.{◌≡◌, ◌∙◌, ◌++◌, ◌+◌, true, ℕ, List, length, Option, None, Some, Result, Ok, Err, option_to_list, ap, sym, subst, refl, inl, inr}
+use Rattle.std.proofs.Common.{◌≡◌, ◌∙◌, ◌++◌, ◌+◌, true, ℕ, List, length, Some, Result, Ok, Err, option_to_list, ap, sym, subst, refl, inl, inr}
+use Rattle.disk_model.specs.View.{is_told}
 use Rattle.archive_entry.specs.declared.entry.Entry.{Entry}
 use Rattle.archive_state.specs.Lawful.{is_next}
 use Rattle.archive_state.specs.declared.verdict.Verdict.TheVariants.{Accept}
@@ -24,10 +25,10 @@ returns-in_err-flush-clause-row g c =
     let m = c.args.moment in
     let set = setting c.args.secret.now c.args.limits.now in
     let same = c.flush.ensures.same in
-    let old = stand_as (view s.archive.disk).tells s.archive.faults s.state s.stops s.caught s.made s.short s.archive.hand in
+    let old = stand_as (is_told (view s.archive.disk)) s.archive.faults s.state s.stops s.caught s.made s.short s.archive.hand in
     let err = c.in_err-flush.ensures.err in
     subst (λ (st : Stand). Submits old st p m set c.from_residual.result)
-    (λ i. stand_as (view (sym same.0 i).disk).tells (sym same.0 i).faults (sym err.0 i) (sym same.1 i) (sym same.2 i) (sym same.3 i) (sym err.1 i) (sym same.0 i).hand)
+    (λ i. stand_as (is_told (view (sym same.0 i).disk)) (sym same.0 i).faults (sym err.0 i) (sym same.1 i) (sym same.2 i) (sym same.3 i) (sym err.1 i) (sym same.0 i).hand)
     (short_row old p m set c.from_residual.result c.from_residual.ensures.1)
 
 pub returns-in_err-flush-clause-disk : goal.returns-in_err-flush-clause-disk
@@ -62,7 +63,7 @@ returns-in_default g c =
     let m = c.args.moment in
     let set = setting c.args.secret.now c.args.limits.now in
     let same = c.flush.ensures.same in
-    let old = stand_as (view s.archive.disk).tells s.archive.faults s.state s.stops s.caught s.made s.short s.archive.hand in
+    let old = stand_as (is_told (view s.archive.disk)) s.archive.faults s.state s.stops s.caught s.made s.short s.archive.hand in
     let mid = c.flush.new.self in
     let more = c.in_ok-flush.ensures.ok in
     let v = c.in_ok-verdict.field-0.verdict in
@@ -70,8 +71,8 @@ returns-in_default g c =
     record {
       row =
           subst (λ (st : Stand). Submits old st p m set (Ok (record { verdict = v; judged = length c.entries.result.now; front = length c.entries.result.now })))
-          (λ i. stand_as (view (sym same.0 i).disk).tells (sym same.0 i).faults mid.state (sym same.1 i) (sym same.2 i) (sym same.3 i) (sym more.1 i) (sym same.0 i).hand)
-          (judged_row (view s.archive.disk).tells s.archive.faults s.state s.stops s.caught s.made s.short s.archive.hand mid.state more.0 s.apart p m set v (length c.entries.result.now) (ap (λ (es : List Entry). length es) c.entries.ensures) c.in_ok-verdict.ensures.verdict c.in_default.not-Accept);
+          (λ i. stand_as (is_told (view (sym same.0 i).disk)) (sym same.0 i).faults mid.state (sym same.1 i) (sym same.2 i) (sym same.3 i) (sym more.1 i) (sym same.0 i).hand)
+          (judged_row (is_told (view s.archive.disk)) s.archive.faults s.state s.stops s.caught s.made s.short s.archive.hand mid.state more.0 s.apart p m set v (length c.entries.result.now) (ap (λ (es : List Entry). length es) c.entries.ensures) c.in_ok-verdict.ensures.verdict c.in_default.not-Accept);
       stopped = λ so. absurd (cc (so));
       judged = same.1;
       short = λ so. absurd (cc (so));
@@ -101,7 +102,7 @@ returns-in_err-accept-clause-row g c =
     let m = c.args.moment in
     let set = setting c.args.secret.now c.args.limits.now in
     let same = c.flush.ensures.same in
-    let old = stand_as (view s.archive.disk).tells s.archive.faults s.state s.stops s.caught s.made s.short s.archive.hand in
+    let old = stand_as (is_told (view s.archive.disk)) s.archive.faults s.state s.stops s.caught s.made s.short s.archive.hand in
     let mid = c.flush.new.self in
     let more = c.in_ok-flush.ensures.ok in
     let l = mid.state in
@@ -114,13 +115,13 @@ returns-in_err-accept-clause-row g c =
     let posted : posted_entry l p m set ≡ Some entry = entry_is l p m set name n who rules ∙ ap Some (sym same_entry) in
     let x = c.accept.new.self in
     let call = c.accept.ensures.disk in
-    let tells = call.tells ∙ ap (λ (a : Archived g.row.D.Denot). (view a.disk).tells) same.0 in
+    let tells = call.tells ∙ ap (λ (a : Archived g.row.D.Denot). is_told (view a.disk)) same.0 in
     let opening = call.opening ∙ ap (λ (a : Archived g.row.D.Denot). a.faults) same.0 in
     let caught = c.accept.ensures.caught ∙ same.2 in
     let r = c.from_residual-in_err-accept.result in
     let f = c.in_err-accept.field-0.0 in
-    let told = (view s.archive.disk).tells in
-    let new = stand_as (view x.archive.disk).tells x.archive.faults x.state x.stops x.caught x.made x.short x.archive.hand in
+    let told = is_told (view s.archive.disk) in
+    let new = stand_as (is_told (view x.archive.disk)) x.archive.faults x.state x.stops x.caught x.made x.short x.archive.hand in
     by_fault r f (λ (y : Result Submitted SubmitFault). Submits old new p m set y) c.from_residual-in_err-accept.ensures.1
     (λ is.
     let st = c.accept.ensures.stopped (c.in_err-accept.was ∙ ap Err is) in
@@ -175,7 +176,7 @@ returns-clause-row g c =
     let m = c.args.moment in
     let set = setting c.args.secret.now c.args.limits.now in
     let same = c.flush.ensures.same in
-    let old = stand_as (view s.archive.disk).tells s.archive.faults s.state s.stops s.caught s.made s.short s.archive.hand in
+    let old = stand_as (is_told (view s.archive.disk)) s.archive.faults s.state s.stops s.caught s.made s.short s.archive.hand in
     let mid = c.flush.new.self in
     let more = c.in_ok-flush.ensures.ok in
     let l = mid.state in
@@ -188,7 +189,7 @@ returns-clause-row g c =
     let posted : posted_entry l p m set ≡ Some entry = entry_is l p m set name n who rules ∙ ap Some (sym same_entry) in
     let x = c.accept.new.self in
     let call = c.accept.ensures.disk in
-    let tells = call.tells ∙ ap (λ (a : Archived g.row.D.Denot). (view a.disk).tells) same.0 in
+    let tells = call.tells ∙ ap (λ (a : Archived g.row.D.Denot). is_told (view a.disk)) same.0 in
     let opening = call.opening ∙ ap (λ (a : Archived g.row.D.Denot). a.faults) same.0 in
     let caught = c.accept.ensures.caught ∙ same.2 in
     let ok = c.in_ok-accept.ensures.ok in
@@ -196,7 +197,7 @@ returns-clause-row g c =
     let hand = ok.2 ∙ ap (λ (a : Archived g.row.D.Denot). a.hand) same.0 in
     subst (λ (y : Stand). Submits old y p m set (Ok (record { verdict = Accept n; judged = length c.entries.result.now; front = length c.entries.result.now + 1 })))
     (λ i. stand_as (sym tells i) (sym opening i) x.state (sym stops i) (sym caught i) x.made (sym ok.1 i) (sym hand i))
-    (accepted_row (view s.archive.disk).tells s.archive.faults s.state s.stops s.caught s.made s.short s.archive.hand l more.0 s.apart p m set entry n (length c.entries.result.now) x.made x.state posted (sym rules) (ap (λ (es : List Entry). length es) c.entries.ensures) ok.0 (subst (λ (k : ℕ). RoseWithin 1 1 k x.made) same.3 ok.4))
+    (accepted_row (is_told (view s.archive.disk)) s.archive.faults s.state s.stops s.caught s.made s.short s.archive.hand l more.0 s.apart p m set entry n (length c.entries.result.now) x.made x.state posted (sym rules) (ap (λ (es : List Entry). length es) c.entries.ensures) ok.0 (subst (λ (k : ℕ). RoseWithin 1 1 k x.made) same.3 ok.4))
 
 pub returns-clause-disk : goal.returns-clause-disk
 returns-clause-disk g c =
