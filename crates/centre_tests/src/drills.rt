@@ -96,7 +96,7 @@ fn leaves_the_archive_where_the_sink_fails(rt: HostRuntime) -> Result<(), Fail> 
     let words = words_with("1");
     let ended = run_over(&rt, &words, &mut source, &mut sink, &mut errors, disk)?;
     assert_eq!(rt; ended.status, 6);
-    assert_eq!(rt; sink.told().ok_or("lost")?, b"entries 3\nre".as_slice());
+    assert_eq!(rt; sink.told(), Some(b"entries 3\nre".as_slice()));
     let _ = check_on(&rt, &words, ended.disk, 9, "", FULL)?;
     Ok(())
 }

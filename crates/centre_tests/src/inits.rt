@@ -43,8 +43,8 @@ pub fn check_on(
     let mut errors = MemorySink::new(alloc, Many::new(alloc));
     let ended = run_over(rt, words, &mut source, &mut sink, &mut errors, disk)?;
     assert_eq!(rt; ended.status, status);
-    assert_eq!(rt; sink.told().ok_or("lost")?, output.as_bytes());
-    assert_eq!(rt; errors.told().ok_or("lost")?, text.as_bytes());
+    assert_eq!(rt; sink.told(), Some(output.as_bytes()));
+    assert_eq!(rt; errors.told(), Some(text.as_bytes()));
     Ok(ended.disk)
 }
 

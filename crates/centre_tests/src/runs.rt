@@ -154,8 +154,8 @@ fn check_with(
     let disk = empty_disk(alloc)?;
     let ended = run_over(rt, words, &mut source, &mut sink, &mut errors, disk)?;
     assert_eq!(rt; ended.status, status);
-    assert_eq!(rt; sink.told().ok_or("lost")?, output);
-    assert_eq!(rt; errors.told().ok_or("lost")?, text.as_bytes());
+    assert_eq!(rt; sink.told(), Some(output));
+    assert_eq!(rt; errors.told(), Some(text.as_bytes()));
     Ok(())
 }
 
@@ -452,7 +452,7 @@ fn check_sink(
     let disk = empty_disk(alloc)?;
     let ended = run_over(rt, &USUAL, &mut source, &mut sink, &mut errors, disk)?;
     assert_eq!(rt; ended.status, status);
-    assert_eq!(rt; sink.told().ok_or("lost")?, output);
+    assert_eq!(rt; sink.told(), Some(output));
     Ok(())
 }
 

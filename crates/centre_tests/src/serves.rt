@@ -56,7 +56,7 @@ fn check_service(
     let disk = disk_of(alloc, file, 0)?;
     let ran = run_with(rt, words, &mut source, &mut sink, &mut errors, disk, port)?;
     assert_eq!(rt; ran.status, status);
-    assert_eq!(rt; errors.told().ok_or("lost")?, text.as_bytes());
+    assert_eq!(rt; errors.told(), Some(text.as_bytes()));
     let [port] = ran.ports.as_slice() else {
         return Err("not one port".into());
     };

@@ -71,8 +71,8 @@ fn check_over(
     let mut errors = MemorySink::new(rt.alloc(), Many::new(rt.alloc()));
     let ended = run_over(rt, words, &mut source, &mut sink, &mut errors, disk)?;
     assert_eq!(rt; (ended.status, ended.turns), wanted);
-    assert_eq!(rt; sink.told().ok_or("lost")?, output);
-    assert_eq!(rt; errors.told().ok_or("lost")?, text.as_bytes());
+    assert_eq!(rt; sink.told(), Some(output));
+    assert_eq!(rt; errors.told(), Some(text.as_bytes()));
     Ok(ended.disk.image(Choice::Old)?)
 }
 

@@ -14,6 +14,7 @@ use owned_desk::OwnedDesk;
 use query_words::{AvailMethod, avail_get, data_get};
 use sample_data::{HA1, NOW, SECRET, USERS, anmo_record, bytes, three_hertz_record};
 use std::alloc::Global;
+use std::process::Abort;
 use std::sync::Wait;
 use std::test::Fail;
 
@@ -124,12 +125,17 @@ fn add<R: Wait>(
     Err("not accepted".into())
 }
 
+// Adds the users feed1 and ada, and the record by feed1.
+fn fill<R: Wait>(rt: &R, alloc: Global, desk: &mut OwnedDesk<MemoryDisk>) -> Result<(), Fail> {
+    add(rt, alloc, desk, &revision(alloc, "op", 1, USERS)?, 2)?;
+    let record = batch(alloc, "feed1", 1, &anmo_record())?;
+    add(rt, alloc, desk, &record, 3)
+}
+
 // The file of an archive: the founding entry of op, the users feed1 and ada, and the record by feed1.
 fn archive_file<R: Wait>(rt: &R, alloc: Global) -> Result<Bytes, Fail> {
     let mut desk = opened(alloc, founded(alloc)?)?;
-    add(rt, alloc, &mut desk, &revision(alloc, "op", 1, USERS)?, 2)?;
-    let record = batch(alloc, "feed1", 1, &anmo_record())?;
-    add(rt, alloc, &mut desk, &record, 3)?;
+    fill(rt, alloc, &mut desk)?;
     file_left(desk)
 }
 
@@ -229,36 +235,48 @@ fn told<R: Wait>(
     Ok((told.verdict, told.judged, told.front))
 }
 
+// Posts one record of feed1 behind another: its number, its body, and what is told of it.
+fn check_posts<R: Wait + Abort>(
+    rt: &R,
+    alloc: Global,
+    desk: &mut OwnedDesk<MemoryDisk>,
+    posts: &[(u64, &[u8], (Verdict, u64, u64))],
+) -> Result<(), Fail> {
+    'posts: for post in posts {
+        let posted = batch(alloc, "feed1", post.0, post.1)?;
+        assert_eq!(rt; told(rt, alloc, desk, &posted)?, post.2);
+    }
+    Ok(())
+}
+
+// Posts to an archive with three entries, and asks.
+fn check_adding<R: Wait + Abort>(
+    rt: &R,
+    alloc: Global,
+    desk: &mut OwnedDesk<MemoryDisk>,
+) -> Result<(), Fail> {
+    let (anmo, slow) = (anmo_record(), three_hertz_record());
+    assert_eq!(rt; (desk.front(), desk.stops()), (3, 0));
+    let posts: [(u64, &[u8], (Verdict, u64, u64)); 4] = [
+        (2, &anmo, (Verdict::Accept(4), 3, 4)),
+        (2, &anmo, (Verdict::Repeat(4), 4, 4)),
+        (2, &slow, (Verdict::OtherBody(4), 4, 4)),
+        (5, &slow, (Verdict::Gap(2), 4, 4)),
+    ];
+    check_posts(rt, alloc, desk, &posts)?;
+    desk.catch_up(rt);
+    // The record is held once, though two entries bring it.
+    let body = body_asked(alloc, desk, 4)?;
+    assert_eq!(rt; body.as_slice(), anmo.as_slice());
+    assert!(rt; is_behind(alloc, desk, 5)?);
+    Ok(())
+}
+
 #[test]
 fn adds_once_what_is_posted(rt: HostRuntime) -> Result<(), Fail> {
     let alloc = rt.alloc();
-    let file = archive_file(&rt, alloc)?;
-    let mut desk = desk_of(alloc, file.as_slice())?;
-    assert_eq!(rt; (desk.front(), desk.stops()), (3, 0));
-    let again = batch(alloc, "feed1", 2, &anmo_record())?;
-    let slow = three_hertz_record();
-    let other = batch(alloc, "feed1", 2, &slow)?;
-    let late = batch(alloc, "feed1", 5, &slow)?;
-    assert_eq!(rt;
-        told(&rt, alloc, &mut desk, &again)?,
-        (Verdict::Accept(4), 3, 4)
-    );
-    assert_eq!(rt;
-        told(&rt, alloc, &mut desk, &again)?,
-        (Verdict::Repeat(4), 4, 4)
-    );
-    assert_eq!(rt;
-        told(&rt, alloc, &mut desk, &other)?.0,
-        Verdict::OtherBody(4)
-    );
-    assert_eq!(rt; told(&rt, alloc, &mut desk, &late)?.0, Verdict::Gap(2));
-    desk.catch_up(&rt);
-    // The record is held once, though two entries bring it.
-    assert_eq!(rt;
-        body_asked(alloc, &mut desk, 4)?.as_slice(),
-        anmo_record().as_slice()
-    );
-    assert!(rt; is_behind(alloc, &mut desk, 5)?);
+    let mut desk = desk_of(alloc, archive_file(&rt, alloc)?.as_slice())?;
+    check_adding(&rt, alloc, &mut desk)?;
     assert_eq!(rt; front_of(alloc, file_left(desk)?.as_slice())?, Ok(4));
     Ok(())
 }
@@ -338,21 +356,29 @@ fn stops_with_it_or_without_it(rt: HostRuntime) -> Result<(), Fail> {
     Ok(())
 }
 
+// Stops at a post; what changes nothing is judged as ever.
+fn check_fault<R: Wait + Abort>(
+    rt: &R,
+    alloc: Global,
+    desk: &mut OwnedDesk<MemoryDisk>,
+) -> Result<(), Fail> {
+    let posted = batch(alloc, "feed1", 2, &three_hertz_record())?;
+    stop_twice(rt, alloc, desk, &posted)?;
+    let unknown = batch(alloc, "bob", 1, b"")?;
+    assert_eq!(rt;
+        told(rt, alloc, desk, &unknown)?.0,
+        Verdict::Denied(Denial::UnknownUser)
+    );
+    Ok(())
+}
+
 // A disk that fails at one call alone leaves the desk stopped.
 #[test]
 fn a_fault_stays(rt: HostRuntime) -> Result<(), Fail> {
     let alloc = rt.alloc();
     let file = archive_file(&rt, alloc)?;
     let mut desk = opened(alloc, disk_of(alloc, file.as_slice(), &[11])?)?;
-    let posted = batch(alloc, "feed1", 2, &three_hertz_record())?;
-    stop_twice(&rt, alloc, &mut desk, &posted)?;
-    // What changes nothing is judged as ever.
-    let unknown = batch(alloc, "bob", 1, b"")?;
-    assert_eq!(rt;
-        told(&rt, alloc, &mut desk, &unknown)?.0,
-        Verdict::Denied(Denial::UnknownUser)
-    );
-    Ok(())
+    check_fault(&rt, alloc, &mut desk)
 }
 
 #[test]
@@ -376,38 +402,51 @@ fn starts_from_no_other_file(rt: HostRuntime) -> Result<(), Fail> {
     Ok(())
 }
 
+// Hides a record, grants it and takes the grant back.
+fn check_grant<R: Wait + Abort>(
+    rt: &R,
+    alloc: Global,
+    desk: &mut OwnedDesk<MemoryDisk>,
+) -> Result<(), Fail> {
+    let restricted = revision(alloc, "op", 2, RESTRICTED)?;
+    add(rt, alloc, desk, &restricted, 4)?;
+    assert!(rt; seen_by(alloc, desk, None)?.is_none());
+    let shown = seen_by(alloc, desk, Some("ada"))?;
+    assert_eq!(rt; shown.ok_or("hidden")?.as_slice(), anmo_record().as_slice());
+    assert!(rt; extent_ends(alloc, desk, "ada", b" RESTRICTED\n")?);
+    let none = revision(alloc, "op", 3, "DEL|GRT|ada|IU|ANMO|00|BHZ|2024-01-01\n")?;
+    add(rt, alloc, desk, &none, 5)?;
+    assert!(rt; seen_by(alloc, desk, Some("ada"))?.is_none());
+    Ok(())
+}
+
 // A restriction hides a record, and a grant shows it to its user, as RESTRICTED; without the grant it is hidden again.
 #[test]
 fn a_grant_shows_what_a_restriction_hides(rt: HostRuntime) -> Result<(), Fail> {
     let alloc = rt.alloc();
-    let file = archive_file(&rt, alloc)?;
-    let mut desk = desk_of(alloc, file.as_slice())?;
-    add(
-        &rt,
-        alloc,
-        &mut desk,
-        &revision(alloc, "op", 2, RESTRICTED)?,
-        4,
-    )?;
-    assert!(rt; seen_by(alloc, &mut desk, None)?.is_none());
-    let shown = seen_by(alloc, &mut desk, Some("ada"))?;
-    assert_eq!(rt; shown.ok_or("hidden")?.as_slice(), anmo_record().as_slice());
-    assert!(rt; extent_ends(alloc, &mut desk, "ada", b" RESTRICTED\n")?);
-    let none = revision(alloc, "op", 3, "DEL|GRT|ada|IU|ANMO|00|BHZ|2024-01-01\n")?;
-    add(&rt, alloc, &mut desk, &none, 5)?;
-    assert!(rt; seen_by(alloc, &mut desk, Some("ada"))?.is_none());
-    Ok(())
+    let mut desk = desk_of(alloc, archive_file(&rt, alloc)?.as_slice())?;
+    check_grant(&rt, alloc, &mut desk)
 }
 
 // Whether nobody in particular is told of a record that is hidden before it is added.
-fn hides<R: Wait>(rt: &R, alloc: Global, file: &[u8], record: &[u8]) -> Result<bool, Fail> {
-    let mut desk = desk_of(alloc, file)?;
-    add(rt, alloc, &mut desk, &revision(alloc, "op", 2, HIDDEN)?, 4)?;
-    add(rt, alloc, &mut desk, &batch(alloc, "feed1", 2, record)?, 5)?;
-    match records_asked(alloc, &mut desk, 0)? {
+fn is_hidden<R: Wait>(
+    rt: &R,
+    alloc: Global,
+    desk: &mut OwnedDesk<MemoryDisk>,
+    record: &[u8],
+) -> Result<bool, Fail> {
+    add(rt, alloc, desk, &revision(alloc, "op", 2, HIDDEN)?, 4)?;
+    add(rt, alloc, desk, &batch(alloc, "feed1", 2, record)?, 5)?;
+    match records_asked(alloc, desk, 0)? {
         (5, Outcome::Empty) => Ok(true),
         _ => Ok(false),
     }
+}
+
+// The same of a new desk over this file.
+fn hides<R: Wait>(rt: &R, alloc: Global, file: &[u8], record: &[u8]) -> Result<bool, Fail> {
+    let mut desk = desk_of(alloc, file)?;
+    is_hidden(rt, alloc, &mut desk, record)
 }
 
 // Two archives that differ in a record which nobody in particular may have.

@@ -13,6 +13,7 @@ use http_digest::Credentials;
 use mseed_header::RecordFault;
 use sample_data::{HA1, NOW, SECRET, USERS, anmo_record, bytes};
 use std::alloc::Global;
+use std::process::Abort;
 use std::test::Fail;
 
 mod states;
@@ -89,12 +90,12 @@ fn take(admit: &mut Admit, entry: &Entry) -> Result<(), Fail>
 fn users(alloc: Global) -> Result<Admit, Fail>
     ensures { IfOk result (λ admit. StandsForSome admit) }
 {
-    let mut admit = Admit::new(alloc);
     let body = founding_body(alloc, b"op", HA1.as_bytes())?;
     let first = Moment { micros: 0 };
     let founding = entry_of(alloc, 1, first, revision("op", 0, body.as_slice()))?;
-    take(&mut admit, &founding)?;
     let second = entry_of(alloc, 2, NOW, revision("op", 1, USERS.as_bytes()))?;
+    let mut admit = Admit::new(alloc);
+    take(&mut admit, &founding)?;
     take(&mut admit, &second)?;
     Ok(admit)
 }
@@ -108,8 +109,8 @@ fn first_batch(alloc: Global) -> Result<Entry, Fail> {
 fn one_batch(alloc: Global) -> Result<Admit, Fail>
     ensures { IfOk result (λ admit. StandsForSome admit) }
 {
-    let mut admit = users(alloc)?;
     let third = first_batch(alloc)?;
+    let mut admit = users(alloc)?;
     take(&mut admit, &third)?;
     Ok(admit)
 }
@@ -154,84 +155,83 @@ fn judged(
     }
 }
 
+// Judges one post behind another over the same history, where its author's entry of that number may be known.
+fn check_verdicts(
+    rt: &impl Abort,
+    alloc: Global,
+    admit: &Admit,
+    earlier: Option<&Entry>,
+    posts: &[(Sent<'_>, Verdict)],
+) -> Result<(), Fail> {
+    'posts: for post in posts {
+        let verdict = judged(alloc, admit, post.0, earlier, &Limits::FULL)?;
+        assert_eq!(rt; verdict, post.1);
+    }
+    Ok(())
+}
+
 #[test]
 fn repeats_and_gaps_are_told(rt: HostRuntime) -> Result<(), Fail> {
     let alloc = rt.alloc();
-    let full = Limits::FULL;
     let (anmo, slow) = (anmo_record(), slow_record());
-    let admit = users(alloc)?;
-    let new = judged(alloc, &admit, batch("feed1", 1, &anmo), None, &full)?;
-    assert_eq!(rt; new, Verdict::Accept(3));
+    let first = batch("feed1", 1, &anmo);
+    let posts = [(first, Verdict::Accept(3))];
+    check_verdicts(&rt, alloc, &users(alloc)?, None, &posts)?;
     let admit = one_batch(alloc)?;
     let third = first_batch(alloc)?;
-    let earlier = Some(&third);
-    let again = judged(alloc, &admit, batch("feed1", 1, &anmo), earlier, &full)?;
-    assert_eq!(rt; again, Verdict::Repeat(3));
-    let other = judged(alloc, &admit, batch("feed1", 1, &slow), earlier, &full)?;
-    assert_eq!(rt; other, Verdict::OtherBody(3));
-    let gap = judged(alloc, &admit, batch("feed1", 3, &anmo), None, &full)?;
-    assert_eq!(rt; gap, Verdict::Gap(1));
-    let next = judged(alloc, &admit, batch("feed1", 2, &anmo), None, &full)?;
-    assert_eq!(rt; next, Verdict::Accept(4));
-    Ok(())
+    let posts = [
+        (first, Verdict::Repeat(3)),
+        (batch("feed1", 1, &slow), Verdict::OtherBody(3)),
+    ];
+    check_verdicts(&rt, alloc, &admit, Some(&third), &posts)?;
+    let posts = [
+        (batch("feed1", 3, &anmo), Verdict::Gap(1)),
+        (batch("feed1", 2, &anmo), Verdict::Accept(4)),
+    ];
+    check_verdicts(&rt, alloc, &admit, None, &posts)
 }
 
 #[test]
 fn users_post_by_their_roles(rt: HostRuntime) -> Result<(), Fail> {
     let alloc = rt.alloc();
-    let full = Limits::FULL;
     let anmo = anmo_record();
     let network = b"NET|IU|GSN|1988-01-01|\n";
-    let admit = users(alloc)?;
-    for sent in [
-        batch("ada", 1, &anmo),
-        batch("op", 2, &anmo),
-        revision("feed1", 1, network),
-        revision("ada", 1, network),
-    ] {
-        assert_eq!(rt; judged(alloc, &admit, sent, None, &full)?, Verdict::Role);
-    }
-    let revised = judged(alloc, &admit, revision("op", 2, network), None, &full)?;
-    assert_eq!(rt; revised, Verdict::Accept(3));
-    let unknown = judged(alloc, &admit, batch("bob", 1, &anmo), None, &full)?;
-    assert_eq!(rt; unknown, Verdict::Denied(Denial::UnknownUser));
-    Ok(())
+    let posts = [
+        (batch("ada", 1, &anmo), Verdict::Role),
+        (batch("op", 2, &anmo), Verdict::Role),
+        (revision("feed1", 1, network), Verdict::Role),
+        (revision("ada", 1, network), Verdict::Role),
+        (revision("op", 2, network), Verdict::Accept(3)),
+        (batch("bob", 1, &anmo), Verdict::Denied(Denial::UnknownUser)),
+    ];
+    check_verdicts(&rt, alloc, &users(alloc)?, None, &posts)
 }
+
+const LINES: &[u8] =
+    b"# a channel without a station\nNET|XX|Test|2000-01-01|\nCHA|IU|ANMO|00|BHZ|34.9459|-106.4572|1850|0|0|-90|STS-1|||M/S|20|2000-01-01|\n";
 
 #[test]
 fn bodies_are_judged(rt: HostRuntime) -> Result<(), Fail> {
     let alloc = rt.alloc();
-    let full = Limits::FULL;
     let short = Verdict::BadRecord {
         at: 0,
         fault: RecordFault::Short,
     };
-    let admit = users(alloc)?;
-    let none = judged(alloc, &admit, batch("feed1", 1, b""), None, &full)?;
-    assert_eq!(rt; none, short);
-    let cut = judged(
-        alloc,
-        &admit,
-        batch("feed1", 1, b"000001D ANMO"),
-        None,
-        &full,
-    )?;
-    assert_eq!(rt; cut, short);
-    let silent = judged(
-        alloc,
-        &admit,
-        revision("op", 2, b"# nothing\n"),
-        None,
-        &full,
-    )?;
-    let fault = LineFault::NoLine;
-    assert_eq!(rt; silent, Verdict::BadLine { line: 1, fault });
-    let lines =
-        b"# a channel without a station\nNET|XX|Test|2000-01-01|\nCHA|IU|ANMO|00|BHZ|34.9459|-106.4572|1850|0|0|-90|STS-1|||M/S|20|2000-01-01|\n";
-    let broken = judged(alloc, &admit, revision("op", 2, lines), None, &full)?;
-    let rule = Rule::NoStationEpoch;
-    assert_eq!(rt; broken, Verdict::Broken { line: 3, rule });
-    Ok(())
+    let silent = Verdict::BadLine {
+        line: 1,
+        fault: LineFault::NoLine,
+    };
+    let broken = Verdict::Broken {
+        line: 3,
+        rule: Rule::NoStationEpoch,
+    };
+    let posts = [
+        (batch("feed1", 1, b""), short),
+        (batch("feed1", 1, b"000001D ANMO"), short),
+        (revision("op", 2, b"# nothing\n"), silent),
+        (revision("op", 2, LINES), broken),
+    ];
+    check_verdicts(&rt, alloc, &users(alloc)?, None, &posts)
 }
 
 #[test]
@@ -240,13 +240,15 @@ fn archives_are_full(rt: HostRuntime) -> Result<(), Fail> {
     let slow = slow_record();
     let next = batch("feed1", 2, &slow);
     let admit = one_batch(alloc)?;
-    let records = judged(alloc, &admit, next, None, &limits(1, 536_870_912))?;
-    assert_eq!(rt; records, Verdict::FullRecords(2));
     // bodies of 49, 96 and 512 bytes, and this one
-    let exact = judged(alloc, &admit, next, None, &limits(2, 1169))?;
-    assert_eq!(rt; exact, Verdict::Accept(4));
-    let bytes = judged(alloc, &admit, next, None, &limits(2, 1168))?;
-    assert_eq!(rt; bytes, Verdict::FullBytes(1169));
+    let cases = [
+        (limits(1, 536_870_912), Verdict::FullRecords(2)),
+        (limits(2, 1169), Verdict::Accept(4)),
+        (limits(2, 1168), Verdict::FullBytes(1169)),
+    ];
+    'cases: for case in &cases {
+        assert_eq!(rt; judged(alloc, &admit, next, None, &case.0)?, case.1);
+    }
     Ok(())
 }
 

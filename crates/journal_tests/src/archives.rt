@@ -151,35 +151,26 @@ fn adds_an_entry(rt: HostRuntime) -> Result<(), Fail> {
 
 fn check_send<T: Send>(_value: &T) {}
 
+// The offsets are those of the first, the second and the third payload's gate.
 #[test]
 fn names_the_damage(rt: HostRuntime) -> Result<(), Fail> {
     let alloc = rt.alloc();
     assert_eq!(rt; outcome(alloc, b"")?, Err(StartFault::NotAJournal));
-    let empty = file_of(alloc, &[])?;
-    assert_eq!(rt;
-        outcome(alloc, empty.as_slice())?,
-        Err(StartFault::Damaged(16))
-    );
-    let second = file_of(alloc, &[SECOND])?;
-    assert_eq!(rt;
-        outcome(alloc, second.as_slice())?,
-        Err(StartFault::Damaged(16))
-    );
-    let gap = file_of(alloc, &[FOUNDING, THIRD])?;
-    assert_eq!(rt;
-        outcome(alloc, gap.as_slice())?,
-        Err(StartFault::Damaged(102))
-    );
-    let twice = file_of(alloc, &[FOUNDING, SECOND, SECOND])?;
-    assert_eq!(rt;
-        outcome(alloc, twice.as_slice())?,
-        Err(StartFault::Damaged(187))
-    );
-    let cut = file_of(alloc, &[&FOUNDING[..80]])?;
-    assert_eq!(rt;
-        outcome(alloc, cut.as_slice())?,
-        Err(StartFault::Damaged(16))
-    );
+    let cut = &FOUNDING[..80];
+    let files: [(&[&[u8]], u64); 5] = [
+        (&[], 16),
+        (&[SECOND], 16),
+        (&[FOUNDING, THIRD], 102),
+        (&[FOUNDING, SECOND, SECOND], 187),
+        (&[cut], 16),
+    ];
+    'files: for (payloads, at) in files {
+        let file = file_of(alloc, payloads)?;
+        assert_eq!(rt;
+            outcome(alloc, file.as_slice())?,
+            Err(StartFault::Damaged(at))
+        );
+    }
     assert_eq!(rt;
         format!(in alloc; "{}", StartFault::Damaged(16))?.as_str(),
         "journal damaged at 16"

@@ -108,15 +108,20 @@ fn tells_the_first_bad_field(rt: HostRuntime) -> Result<(), Fail> {
     if payload.len() != 81 {
         return Err("too short".into());
     }
-    assert_eq!(rt; bad_with(alloc, payload, 16, 0)?, Some(16));
-    assert_eq!(rt; bad_with(alloc, payload, 16, 33)?, Some(16));
-    assert_eq!(rt; bad_with(alloc, payload, 17, b'|')?, Some(17));
-    assert_eq!(rt; bad_with(alloc, payload, 27, 0)?, Some(27));
-    assert_eq!(rt; bad_with(alloc, payload, 27, 3)?, Some(27));
-    assert_eq!(rt; bad_with(alloc, payload, 31, 0)?, Some(28));
-    assert_eq!(rt; bad_with(alloc, payload, 29, 0x11)?, Some(28));
-    assert_eq!(rt; bad_with(alloc, payload, 27, 1)?, Some(32));
-    assert_eq!(rt; bad_with(alloc, payload, 32, b'V')?, Some(32));
+    let changes = [
+        (16, 0, 16),
+        (16, 33, 16),
+        (17, b'|', 17),
+        (27, 0, 27),
+        (27, 3, 27),
+        (31, 0, 28),
+        (29, 0x11, 28),
+        (27, 1, 32),
+        (32, b'V', 32),
+    ];
+    'changes: for (at, byte, field) in changes {
+        assert_eq!(rt; bad_with(alloc, payload, at, byte)?, Some(field));
+    }
     let longer = payload_of(alloc, payload, b"\n")?;
     assert_eq!(rt; bad_at(alloc, longer.as_slice()), Some(81));
     let fault = EntryFault::Bad { at: 16 };

@@ -124,44 +124,57 @@ const BHZ: [&str; 4] = ["IU", "ANMO", "00", "BHZ"];
 fn simple_queries(alloc: Global) -> Result<Many<DataQuery>, Fail> {
     let lowest = Some(Moment { micros: i64::MIN });
     let highest = Some(Moment { micros: i64::MAX });
+    let windows = [
+        (EVERY, None, None),
+        (BHZ, after(5000), after(5000)),
+        (BHZ, after(333), after(333)),
+        (BHZ, after(334), after(6000)),
+        (EVERY, after(10_000_000), None),
+        (EVERY, after(70_000_000), None),
+        (EVERY, None, after(5000)),
+        (EVERY, after(9000), after(1000)),
+        (EVERY, lowest, highest),
+        (EVERY, highest, lowest),
+        (["I?", "A*", "--", "?H?"], None, None),
+        (["GE", "*", "*", "*"], None, None),
+    ];
     let mut queries = Many::new(alloc);
-    queries.push(one(alloc, window(alloc, EVERY, None, None)?)?)?;
-    queries.push(one(alloc, window(alloc, BHZ, after(5000), after(5000))?)?)?;
-    queries.push(one(alloc, window(alloc, BHZ, after(333), after(333))?)?)?;
-    queries.push(one(alloc, window(alloc, BHZ, after(334), after(6000))?)?)?;
-    queries.push(one(alloc, window(alloc, EVERY, after(10_000_000), None)?)?)?;
-    queries.push(one(alloc, window(alloc, EVERY, after(70_000_000), None)?)?)?;
-    queries.push(one(alloc, window(alloc, EVERY, None, after(5000))?)?)?;
-    queries.push(one(alloc, window(alloc, EVERY, after(9000), after(1000))?)?)?;
-    queries.push(one(alloc, window(alloc, EVERY, lowest, highest)?)?)?;
-    queries.push(one(alloc, window(alloc, EVERY, highest, lowest)?)?)?;
-    queries.push(one(alloc, window(alloc, ["I?", "A*", "--", "?H?"], None, None)?)?)?;
-    queries.push(one(alloc, window(alloc, ["GE", "*", "*", "*"], None, None)?)?)?;
+    'windows: for (lists, start, end) in windows {
+        queries.push(one(alloc, window(alloc, lists, start, end)?)?)?;
+    }
     Ok(queries)
 }
 
-// Queries with several selections, and with more than names and windows.
-fn other_queries(alloc: Global) -> Result<Many<DataQuery>, Fail> {
-    let mut queries = Many::new(alloc);
-    queries.push(query_of(Many::new(alloc)))?;
+fn two_selections(alloc: Global) -> Result<DataQuery, Fail> {
     let mut two = Many::new(alloc);
     two.push(window(alloc, ["IU", "*", "*", "BH?"], None, after(6000))?)?;
     two.push(window(alloc, ["*", "ANMO", "--,00", "*"], after(5000), None)?)?;
-    queries.push(query_of(two))?;
-    // So many that a walk over all rows is no dearer.
+    Ok(query_of(two))
+}
+
+// So many that a walk over all rows is no dearer.
+fn many_selections(alloc: Global) -> Result<DataQuery, Fail> {
     let mut many = Many::new(alloc);
     for second in 0..20 {
         many.push(window(alloc, EVERY, after(second * 500), None)?)?;
     }
-    queries.push(query_of(many))?;
+    Ok(query_of(many))
+}
+
+// Queries with several selections, and with more than names and windows.
+fn other_queries(alloc: Global) -> Result<Many<DataQuery>, Fail> {
     let mut quality = one(alloc, window(alloc, EVERY, None, None)?)?;
     quality.quality = Some(Quality::R);
-    queries.push(quality)?;
     let mut minimum = one(alloc, window(alloc, EVERY, after(1000), None)?)?;
     minimum.minimum = 6_000_000;
-    queries.push(minimum)?;
     let mut longest = one(alloc, window(alloc, EVERY, None, after(10_000))?)?;
     longest.longest = true;
+    let mut queries = Many::new(alloc);
+    queries.push(query_of(Many::new(alloc)))?;
+    queries.push(two_selections(alloc)?)?;
+    queries.push(many_selections(alloc)?)?;
+    queries.push(quality)?;
+    queries.push(minimum)?;
     queries.push(longest)?;
     Ok(queries)
 }

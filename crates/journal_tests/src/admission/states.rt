@@ -65,12 +65,13 @@ fn holds_rows_lines_and_entries(rt: HostRuntime) -> Result<(), Fail> {
 #[test]
 fn holds_a_record_once(rt: HostRuntime) -> Result<(), Fail> {
     let alloc = rt.alloc();
-    let mut admit = Admit::new(alloc);
-    let mut state = State::new(alloc);
-    archive(alloc, &mut admit, &mut state)?;
     let mut both = super::bytes(alloc, &anmo_record())?;
     both.extend(&slow_record())?;
     let again = entry_of(alloc, 4, NOW, batch("feed1", 2, both.as_slice()))?;
+    let epochs = entry_of(alloc, 5, NOW, revision("op", 2, EPOCHS.as_bytes()))?;
+    let mut admit = Admit::new(alloc);
+    let mut state = State::new(alloc);
+    archive(alloc, &mut admit, &mut state)?;
     take(&mut admit, &mut state, &again)?;
     assert_eq!(rt; state.entries().len(), 4);
     assert_eq!(rt; state.shelf().len(), 2);
@@ -78,7 +79,6 @@ fn holds_a_record_once(rt: HostRuntime) -> Result<(), Fail> {
         return Err("too few rows".into());
     }
     assert_eq!(rt; state.shelf().row(1).place, 1);
-    let epochs = entry_of(alloc, 5, NOW, revision("op", 2, EPOCHS.as_bytes()))?;
     take(&mut admit, &mut state, &epochs)?;
     assert_eq!(rt; state.catalog().lines().len(), 6);
     assert_eq!(rt; state.shelf().len(), 2);

@@ -1,14 +1,17 @@
 //! How many calls of a desk a reply makes.
-use super::{NOW, command, moment_at, opened, plain, record_archive, request_of};
+use super::asking::Ask::{Command, Plain};
+use super::asking::{Ask, moment_at, request_of};
+use super::{NOW, opened, record_archive};
 use archive_state::{Limits, Posted};
 use centre_desk::reply;
 use desk_words::{Answer, Desk, Question, SubmitFault, Submitted};
 use disk_model::MemoryDisk;
-use exact_time::{Bytes, Moment, OutOfMemory};
+use exact_time::{Moment, OutOfMemory};
 use http_digest::Secret;
 use owned_desk::OwnedDesk;
 use sample_data::{SECRET, anmo_record};
 use std::alloc::Global;
+use std::process::Abort;
 use std::sync::Wait;
 use std::test::Fail;
 
@@ -70,22 +73,37 @@ impl Desk for CountingDesk {
     ghost lawful = { λ c. c.desk.lawful };
 }
 
-// Whether a request has a reply of this status, and the desk then so many calls behind it.
-fn is_told<R: Wait>(
+// What is asked, the status of its reply, and how many calls of each kind the desk has behind it then.
+type Call<'a> = (Ask<'a>, u16, (u32, u32, u32));
+
+// The status of the reply.
+fn status_of<R: Wait>(
     rt: &R,
     alloc: Global,
     desk: &mut CountingDesk,
-    request: &Bytes,
-    status: u16,
-    counts: (u32, u32, u32),
-) -> Result<bool, Fail> {
-    let request = request_of(alloc, request)?;
+    ask: Ask,
+) -> Result<u16, Fail> {
+    let request = request_of(alloc, ask)?;
     let moment = moment_at(NOW)?;
     if request.body.len() > 1_048_576 || !moment.is_clock_moment() {
         return Err("no request".into());
     }
     let (reply, _turn) = reply(rt, alloc, desk, &request, moment, &SECRET, &Limits::FULL)?;
-    Ok(reply.status == status && desk.counts() == counts)
+    Ok(reply.status)
+}
+
+// Asks one behind another.
+fn check_calls<R: Wait + Abort>(
+    rt: &R,
+    alloc: Global,
+    desk: &mut CountingDesk,
+    calls: &[Call],
+) -> Result<(), Fail> {
+    'calls: for call in calls {
+        let status = status_of(rt, alloc, desk, call.0)?;
+        assert_eq!(rt; (status, desk.counts()), (call.1, call.2));
+    }
+    Ok(())
 }
 
 fn counting<R: Wait>(rt: &R, alloc: Global) -> Result<CountingDesk, Fail> {
@@ -104,13 +122,14 @@ const QUERY: &str = "GET /fdsnws/dataselect/1/query?net=IU";
 fn a_query_asks_once(rt: HostRuntime) -> Result<(), Fail> {
     let alloc = rt.alloc();
     let mut desk = counting(&rt, alloc)?;
-    let query = plain(alloc, QUERY, "")?;
-    let wrong = plain(alloc, "GET /fdsnws/dataselect/1/query?foo=1", "")?;
-    let behind = plain(alloc, QUERY, "X-Archive-Front: 9\r\n")?;
-    assert!(rt; is_told(&rt, alloc, &mut desk, &query, 200, (1, 0, 0))?);
-    assert!(rt; is_told(&rt, alloc, &mut desk, &wrong, 400, (2, 0, 0))?);
-    assert!(rt; is_told(&rt, alloc, &mut desk, &behind, 400, (3, 0, 1))?);
-    Ok(())
+    let wrong = Plain("GET /fdsnws/dataselect/1/query?foo=1", "");
+    let behind = Plain(QUERY, "X-Archive-Front: 9\r\n");
+    let calls = [
+        (Plain(QUERY, ""), 200, (1, 0, 0)),
+        (wrong, 400, (2, 0, 0)),
+        (behind, 400, (3, 0, 1)),
+    ];
+    check_calls(&rt, alloc, &mut desk, &calls)
 }
 
 // Neither a version nor a path that there isn't asks anything.
@@ -118,11 +137,10 @@ fn a_query_asks_once(rt: HostRuntime) -> Result<(), Fail> {
 fn some_replies_ask_nothing(rt: HostRuntime) -> Result<(), Fail> {
     let alloc = rt.alloc();
     let mut desk = counting(&rt, alloc)?;
-    let version = plain(alloc, "GET /fdsnws/dataselect/1/version", "")?;
-    let nothing = plain(alloc, "GET /nothing", "")?;
-    assert!(rt; is_told(&rt, alloc, &mut desk, &version, 200, (0, 0, 0))?);
-    assert!(rt; is_told(&rt, alloc, &mut desk, &nothing, 404, (0, 0, 0))?);
-    Ok(())
+    let version = Plain("GET /fdsnws/dataselect/1/version", "");
+    let nothing = Plain("GET /nothing", "");
+    let calls = [(version, 200, (0, 0, 0)), (nothing, 404, (0, 0, 0))];
+    check_calls(&rt, alloc, &mut desk, &calls)
 }
 
 #[test]
@@ -130,11 +148,13 @@ fn a_command_is_submitted_once(rt: HostRuntime) -> Result<(), Fail> {
     let alloc = rt.alloc();
     let mut desk = counting(&rt, alloc)?;
     let record = anmo_record();
-    let wrong = command(alloc, "feed1", "/feed/1/batch", &record)?;
-    let repeated = command(alloc, "feed1", "/feed/1/batch?seq=1", &record)?;
-    let gap = command(alloc, "feed1", "/feed/1/batch?seq=9", &record)?;
-    assert!(rt; is_told(&rt, alloc, &mut desk, &wrong, 400, (0, 0, 0))?);
-    assert!(rt; is_told(&rt, alloc, &mut desk, &repeated, 200, (0, 1, 0))?);
-    assert!(rt; is_told(&rt, alloc, &mut desk, &gap, 409, (0, 2, 0))?);
-    Ok(())
+    let wrong = Command("feed1", "/feed/1/batch", &record);
+    let repeated = Command("feed1", "/feed/1/batch?seq=1", &record);
+    let gap = Command("feed1", "/feed/1/batch?seq=9", &record);
+    let calls = [
+        (wrong, 400, (0, 0, 0)),
+        (repeated, 200, (0, 1, 0)),
+        (gap, 409, (0, 2, 0)),
+    ];
+    check_calls(&rt, alloc, &mut desk, &calls)
 }
