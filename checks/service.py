@@ -153,3 +153,42 @@ class Client:
 
     def close(self):
         self.link.close()
+
+
+class Talk:
+    """One process of `talk`, and its connection; `before` are words that come before the program's."""
+
+    def __init__(self, journal, *options, before=(), **more):
+        self.process = subprocess.Popen(
+            [*before, PROGRAM, "talk", "--journal", journal, *options],
+            stdin=subprocess.PIPE, stdout=subprocess.PIPE, stderr=subprocess.PIPE, **more,
+        )
+
+    def ask(self, method, target, body=b"", fields=""):
+        """The status, the fields and the body of the reply."""
+        head = f"{method} {target} HTTP/1.1\r\nHost: localhost\r\n{fields}"
+        if method == "POST":
+            head += f"Content-Length: {len(body)}\r\n"
+        self.process.stdin.write(head.encode() + b"\r\n" + body)
+        self.process.stdin.flush()
+        return self.reply()
+
+    def reply(self):
+        lines = []
+        while (line := self.process.stdout.readline()) not in (b"\r\n", b""):
+            lines.append(line.decode().strip())
+        fields = dict(line.split(": ", 1) for line in lines[1:])
+        body = self.process.stdout.read(int(fields.get("Content-Length", 0)))
+        return int(lines[0].split()[1]) if lines else 0, fields, body
+
+    def post(self, user, target, body):
+        """The same with Digest: what is asked first is answered with a nonce."""
+        _, fields, _ = self.ask("POST", target, body)
+        signed = authorization(user, nonce_of(fields["WWW-Authenticate"]), "POST", target)
+        status, fields, told = self.ask("POST", target, body, f"Authorization: {signed}\r\n")
+        return status, told.decode()
+
+    def end(self):
+        """The status and the text on standard error."""
+        out, errors = self.process.communicate()
+        return self.process.returncode, errors.decode()

@@ -1,17 +1,7 @@
-//! Tests of what is found in what is held: the catalog, access, the text answers, the index of rows and its spans.
+//! A test of what is found in an index of many rows. The cases that are data are in `answer_cases`.
 //!
-//! They stand apart from what they test, so that it is proved once.
+//! It stands apart from what it tests, so that it is proved once.
 #![tactic(auto)]
 
 #[cfg(test)]
-mod access;
-#[cfg(test)]
-mod catalogs;
-#[cfg(test)]
-mod events;
-#[cfg(test)]
-mod extents;
-#[cfg(test)]
-mod index;
-#[cfg(test)]
-mod stations;
+mod many;

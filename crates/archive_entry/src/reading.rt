@@ -94,12 +94,13 @@ fn is_body_size(size: u32) -> bool
     1 <= size && size <= MOST_BYTES
 }
 
+// A copy of the bytes, whose parts are shared.
 fn bytes_of(alloc: Global, bytes: &[u8]) -> Result<Bytes, OutOfMemory>
     ensures { IfOk result (λ copy. copy ≡ bytes.now) }
 {
     let mut copy = Bytes::new(alloc);
     copy.extend(bytes)?;
-    Ok(copy)
+    copy.share()
 }
 
 fn body_of(

@@ -13,8 +13,8 @@ use crate::lines::take_revision;
 use archive_entry::{Entry, Kind};
 use dataselect::Shelf;
 use epoch_catalog::Catalog;
-use exact_time::{Many, Moment, OutOfMemory};
-use mseed_header::{CutFault, Row, cut_records};
+use exact_time::{Bytes, Many, Moment, OutOfMemory};
+use mseed_header::{CutFault, Row, cut_body};
 use std::alloc::Global;
 use std::marker::Model;
 use time_index::IndexedShelf;
@@ -54,18 +54,20 @@ fn copy_of(alloc: Global, entry: &Entry) -> Result<Entry, OutOfMemory>
     })
 }
 
-// The rows of a batch; none where a record is refused.
+// The rows of a batch; none where a record is refused. Of the bytes of the body, as a slice, it is known what bytes are.
 fn rows_in(
     alloc: Global,
-    body: &[u8],
+    body: &Bytes,
+    bytes: &[u8],
     number: u64,
     moment: Moment,
 ) -> Result<Many<Row>, OutOfMemory>
+    requires same { bytes.now ≡ body.now }
     requires short { length body.now < 2 ^ 32 }
     requires clock { is_clock_moment moment ≡ true }
     ensures { IfOk result (λ rows. rows ≡ batch_rows number moment body.now) }
 {
-    match cut_records(alloc, body, number, moment) {
+    match cut_body(alloc, body, number, moment) {
         Ok(rows) => Ok(rows),
         Err(CutFault::Bad { .. }) => Ok(Many::new(alloc)),
         Err(CutFault::OutOfMemory) => Err(OutOfMemory),
@@ -88,7 +90,8 @@ fn absorb_batch(
     ensures same_rows { OnErr result (⟦<IndexedShelf as Shelf>⟧.rows shelf.new ≡ ⟦<IndexedShelf as Shelf>⟧.rows shelf.old) }
     ensures same_entries { OnErr result (entries.new.items ≡ entries.old.items) }
 {
-    let rows = rows_in(alloc, entry.body.as_slice(), entry.number, entry.moment)?;
+    let bytes = entry.body.as_slice();
+    let rows = rows_in(alloc, &entry.body, bytes, entry.number, entry.moment)?;
     shelf.insert_all(rows)?;
     entries.push_reserved(entry);
     Ok(())

@@ -198,7 +198,7 @@ talk_ended : {D : Type 0} (view : D → DiskView) (secret : Secret) (w : TalkWor
     → Ended (Some (talk w)) given ending
 talk_ended view secret w given before after (Ok done) e row =
     let s = setting secret row.limits in
-    let calm = row.row in
+    let calm = row.row.calm in
     inr (record {
       answer = Ok [];
       is = (
@@ -212,7 +212,7 @@ talk_ended view secret w given before after (Ok done) e row =
       text_is = refl;
     })
 talk_ended view secret w given before after (Err (Refused RequestCut)) e row =
-    let calm = row.row in
+    let calm = row.row.calm in
     inr (record {
       answer = Err RequestCut;
       is = served view (setting secret row.limits) w given before after calm.turns session.Cut cut e calm.talked calm.talked.row;

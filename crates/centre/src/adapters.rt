@@ -1,6 +1,7 @@
 //! Adapters over std's readers and writers. They count each error, and tell what the reader or the writer
 //! tells: of one in memory the bytes, of a real stream nothing.
-ghost use Rattle.std.specs.Prelude.{◌≡◌, None, IsSome, IsTrue};
+ghost use Rattle.std.specs.Prelude.{◌≡◌, take, None, IfOk, IsSome, IsTrue};
+ghost use Rattle.std.specs.Io.KnownBytes.{Appends};
 ghost use Rattle.streams.specs.Effects.{Puts};
 ghost use Rattle.streams.specs.View.{told_if};
 
@@ -92,6 +93,8 @@ impl<W: Write> Sink for StdSink<W> {
     fn put(&mut self, piece: &[u8]) -> Result<usize, Failed>
         ensures tells { IsSome (⟦<StdSink<W> as Stream>⟧.view self.old).written → IsSome (⟦<StdSink<W> as Stream>⟧.view self.new).written }
         ensures put { Puts (⟦<StdSink<W> as Stream>⟧.view self.old) (⟦<StdSink<W> as Stream>⟧.view self.new) result piece.now }
+        // Whether it tells that or not, the writer got what was put.
+        ensures given { IfOk result (λ count. Appends (W.contents self.old.inner) (W.contents self.new.inner) (take count piece.now)) }
     {
         if piece.is_empty() {
             return Ok(0);

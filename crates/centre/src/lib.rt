@@ -41,6 +41,3 @@ pub use telling::out_of_memory;
 
 /// How many bytes the input of `select` may have.
 pub const MAX_INPUT: usize = 67_108_864;
-
-/// How many bytes an answer may have.
-pub const MAX_BYTES: u64 = 67_108_864;

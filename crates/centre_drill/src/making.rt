@@ -118,7 +118,7 @@ impl<D: Disk> Making<D> {
             author,
             seq: posted.seq,
             kind: posted.kind,
-            body: posted.body,
+            body: posted.body.share()?,
         })
     }
 

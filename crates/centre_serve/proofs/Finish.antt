@@ -1,11 +1,10 @@
 -- How a service ends, from what its workers and the closed hall say.
-use Rattle.std.proofs.Common.{◌≡◌, ◌∙◌, refl, sym, ap, subst, arith, Bool, true, false, ℕ, ◌+◌, ◌-◌, ◌^◌, ◌≤◌, ◌<◌, nat_lt, min, List, [], ◌∷◌, ◌++◌, length, map, take, drop, Result, Ok, Err}
+use Rattle.std.proofs.Common.{◌≡◌, ◌∙◌, refl, sym, ap, subst, arith, Bool, true, false, ℕ, ◌+◌, ◌≤◌, List, [], ◌∷◌, ◌++◌, length, map, take, drop, Result, Err}
 use Rattle.std.proofs.lemmas.List.{take-append-drop}
 use Rattle.std.specs.List.{list_any, sum_by, AllZip, AllByRecursion}
 use mathlib.Core.List.{IsPrefix}
 use Rattle.archive_entry.specs.declared.entry.Entry.{Entry}
 use Rattle.desk_words.specs.Setting.{Setting}
-use Rattle.desk_words.specs.Stand.{nothing}
 use Rattle.disk_model.specs.View.{DiskView, is_told}
 use Rattle.link_ports.specs.Ports.{PortView}
 use Rattle.snapshot_hall.specs.Ends.{Closed}
@@ -16,8 +15,8 @@ use Rattle.centre_serve.specs.Rows.{WorkerRow, was_stopped}
 use Rattle.centre_serve.specs.Service.{Site, site, Serving, IsCalm, StartedRow}
 use Rattle.centre_serve.specs.Stops.{ending_of}
 use Rattle.centre_serve.specs.declared.ending.ServeStop.{ServeStop}
-use Rattle.centre_serve.specs.declared.ending.ServeStop.TheVariants.{DiskFault, PortFault, NotAJournal, Damaged, OutOfMemory}
-use Rattle.centre_serve.specs.Whole.{AllServed, AreServed, AreSpent, OneRose, least_made, most_made, halted}
+use Rattle.centre_serve.specs.declared.ending.ServeStop.TheVariants.{OutOfMemory}
+use Rattle.centre_serve.specs.Whole.{AllServed}
 
 sum_same : {X : Type 0} (f g : X → ℕ) (xs : List X) → ((x : X) → f x ≡ g x) → sum_by f xs ≡ sum_by g xs
 sum_same f g [] is = refl
@@ -86,6 +85,7 @@ module _ {J D P : Type 0} (scene : J → PortScene) (failed : J → Bool) (place
     all = all;
     left = closed.left;
     images = λ t. closed.images (told_is ∙ t);
+    keeps = λ t. closed.keeps (told_is ∙ t);
     tells = tells ∙ told_is;
   }
 

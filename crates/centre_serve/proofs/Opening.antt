@@ -1,5 +1,5 @@
 -- From the archive that was opened, or not, to the disk that was handed in.
-use Rattle.std.proofs.Common.{◌≡◌, ◌∙◌, refl, sym, ap, subst, arith, inl, inr, ℕ, ◌≤◌, List, length, Result, Ok, Err}
+use Rattle.std.proofs.Common.{◌≡◌, ◌∙◌, refl, sym, subst, arith, inl, inr, ℕ, ◌≤◌, List, length, Result, Ok, Err}
 use Rattle.archive_entry.specs.declared.entry.Entry.{Entry}
 use Rattle.archive_log.specs.Histories.{IsHistoryOf}
 use Rattle.archive_log.specs.declared.fault.StartFault.{StartFault}
@@ -8,7 +8,7 @@ use Rattle.desk_words.specs.Setting.{Setting}
 use Rattle.disk_model.specs.Effects.{WritesNothing}
 use Rattle.disk_model.specs.View.{DiskView, WhereTold, file_of}
 use Rattle.link_ports.specs.Ports.{PortView}
-use Rattle.centre_serve.specs.Service.{Site, site, Serving, StartedRow, IsRefused, RanShort, ServeRow}
+use Rattle.centre_serve.specs.Service.{Site, site, Serving, StartedRow, IsRefused, ServeRow}
 use Rattle.centre_serve.specs.Stops.{stop_for_start}
 use Rattle.centre_serve.specs.declared.ending.ServeStop.{ServeStop}
 use Rattle.centre_serve.specs.declared.ending.ServeStop.TheVariants.{DiskFault, PortFault, NotAJournal, Damaged, OutOfMemory}
@@ -30,6 +30,7 @@ module _ (s : Setting) (was mid : DiskView) (ports : List PortView) (after : Sit
     all = v.all;
     left = v.left;
     images = λ t. v.images (run.tells ∙ t);
+    keeps = λ t. v.keeps (run.tells ∙ t);
     tells = v.tells ∙ run.tells;
   }
 

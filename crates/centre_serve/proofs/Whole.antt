@@ -1,5 +1,5 @@
 -- From each worker's own history to the one that all share.
-use Rattle.std.proofs.Common.{◌≡◌, ◌⊎◌, inl, inr, Bool, true, false, ◌||◌, ℕ, zero, suc, ◌+◌, ◌-◌, ◌≤◌, ◌<◌, ◌^◌, nat_lt, List, [], ◌∷◌, length, map, min, slice_index_or, refl, sym, ◌∙◌, ap, subst, arith, Result, Ok, Err}
+use Rattle.std.proofs.Common.{◌≡◌, ◌⊎◌, inl, inr, Bool, true, false, ◌||◌, ℕ, suc, ◌+◌, ◌-◌, ◌≤◌, ◌<◌, ◌^◌, nat_lt, List, [], ◌∷◌, length, map, slice_index_or, refl, sym, ◌∙◌, ap, subst, arith}
 use Rattle.std.specs.List.{list_any, sum_by, AllZip, AllByRecursion}
 use Rattle.std.proofs.lemmas.Bool.Decides.{nat_tests}
 use Rattle.std.proofs.lemmas.List.Sums.{sum_by-append}
@@ -12,7 +12,7 @@ use Rattle.link_ports.specs.Ports.{PortView, IsSpent}
 use Rattle.centre_port.specs.Visits.{IsVisits, PortScene, ServesPort}
 use Rattle.centre_port.proofs.Visits.{visits_extend}
 use Rattle.centre_serve.specs.Rows.{WorkerRow, EndsPort}
-use Rattle.centre_serve.specs.Whole.{PortVisits, IsServed, AreServed, AllServed, AreSpent, OneRose, least_made, most_made, halted}
+use Rattle.centre_serve.specs.Whole.{PortVisits, IsServed, AreServed, AreSpent, OneRose, least_made, most_made, halted}
 
 pub zip_each : {A : Type 0} (R : A → A → Type 0) (xs ys : List A) → length ys ≡ length xs → ((i : ℕ) (d : A) → i < length xs → R (slice_index_or xs i d) (slice_index_or ys i d)) → AllZip R xs ys
 zip_each R [] [] e f = tt

@@ -1,5 +1,5 @@
 -- What one worker does.
-use Rattle.std.specs.Prelude.{ℕ, nat_lt, Bool, true, false, List, Option}
+use Rattle.std.specs.Prelude.{nat_lt, Bool, true, false, List, Option}
 use Rattle.exact_time.specs.Causes.{Rose}
 use Rattle.exact_time.specs.declared.moment.Moment.{Moment}
 use Rattle.desk_words.specs.Setting.{Setting}

@@ -14,7 +14,7 @@ use Rattle.archive_state.specs.Lawful.{IsLawful}
 use Rattle.desk_words.specs.Setting.{Setting}
 use Rattle.desk_words.specs.Stand.{Left, nothing}
 use Rattle.link_ports.specs.Ports.{PortView}
-use Rattle.owned_desk.specs.Owned.{LeavesLeft}
+use Rattle.owned_desk.specs.Owned.{LeavesLeft, KeepsHistory}
 use Rattle.centre_serve.specs.Whole.{AllServed, AreSpent, OneRose, halted}
 use Rattle.centre_serve.specs.declared.ending.ServeStop.{ServeStop}
 use Rattle.centre_serve.specs.declared.ending.ServeStop.TheVariants.{DiskFault, PortFault, NotAJournal, Damaged, OutOfMemory}
@@ -29,7 +29,7 @@ site disk ports = record { disk = disk; ports = ports }
 
 -- The links of all ports were served over the one history that the disk comes back with, which goes on from the one that its
 -- file spelled. Every file that a crash then leaves is a journal of that history, with or without what was left: nothing, or
--- the entry of a command that the disk stopped.
+-- the entry of a command that the disk stopped, which may come next in it. So each of these files opens.
 pub record Serving (s : Setting) (before after : Site) (opening : List Entry) : Type 0 where
   pub history : List Entry
   pub lawful : IsLawful history
@@ -37,6 +37,7 @@ pub record Serving (s : Setting) (before after : Site) (opening : List Entry) : 
   pub all : AllServed history (length opening) s before.ports after.ports
   pub left : Left
   pub images : is_told before.disk ≡ true → LeavesLeft after.disk.may_leave history left
+  pub keeps : is_told before.disk ≡ true → KeepsHistory history left
   pub tells : is_told after.disk ≡ is_told before.disk
 
 -- No command was stopped: nothing is left, and no reply tells that one was.

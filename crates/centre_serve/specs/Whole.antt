@@ -1,5 +1,5 @@
 -- The links of all ports over one history.
-use Rattle.std.specs.Prelude.{◌≡◌, ◌⊎◌, ℕ, ◌+◌, ◌≤◌, List, [], ◌∷◌, length, ⊤}
+use Rattle.std.specs.Prelude.{◌⊎◌, ℕ, ◌+◌, ◌≤◌, List, [], ◌∷◌, length, ⊤}
 use Rattle.std.specs.List.{sum_by}
 use Rattle.exact_time.specs.Causes.{Rose}
 use Rattle.archive_entry.specs.declared.entry.Entry.{Entry}

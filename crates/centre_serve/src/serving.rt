@@ -14,7 +14,7 @@ use archive_log::Archive;
 use archive_state::{Admit, Limits};
 use centre_session::{Clock, Trail};
 use disk_model::Disk;
-use exact_time::OutOfMemory;
+use exact_time::{Many, OutOfMemory};
 use http_digest::Secret;
 use link_ports::Port;
 use snapshot_hall::{Gate, Hall};
@@ -58,7 +58,7 @@ fn serve_named<
     rt: &R,
     alloc: Global,
     archive: Archive<D>,
-    entries: &[Entry],
+    entries: Many<Entry>,
     admit: Admit,
     opened: Opened,
     made: Blank,
@@ -69,9 +69,9 @@ fn serve_named<
     secret: &Secret,
     limits: &Limits,
 ) -> Served<D, P>
-    requires started { IsStarted D.view archive entries.now admit }
+    requires started { IsStarted D.view archive entries admit }
     requires book { opened ≡ J.book }
-    requires opening { J.opening ≡ entries.now }
+    requires opening { J.opening ≡ entries }
     requires told { (J.told ≡ is_told (D.view archive.disk)) × (J.faults ≡ archive.faults) }
     requires made { (made.name ≡ L.name) × (made.parts ≡ L.parts) × (L.parts ≡ length workers.items) }
     requires halts { (halts.name ≡ S.name) × (halts.parts ≡ S.parts) × (S.parts ≡ length workers.items) }
@@ -81,7 +81,7 @@ fn serve_named<
     ensures row { StartedRow (setting secret.now limits.now)
         (site (D.view archive.disk) (map (λ worker. P.view worker.port) workers.items))
         (site (D.view result.disk) (map P.view result.ports.items))
-        entries.now archive.faults result.ending }
+        entries archive.faults result.ending }
     ensures starved { result.ending ≡ Err ServeStop.OutOfMemory → result.disk ≡ archive.disk }
 {
     let count = workers.len();
@@ -94,7 +94,7 @@ fn serve_named<
         rt,
         alloc,
         archive,
-        entries,
+        entries.as_slice(),
         admit,
         opened,
         count as u64,
@@ -105,6 +105,8 @@ fn serve_named<
         Ok(started) => started,
         Err((disk, OutOfMemory)) => return without_memory(disk, workers, room),
     };
+    // Both copies have the entries now.
+    drop(entries);
     let mut ports = room;
     let jobs = seat_all(&hall, &mut places, workers, trails, seats);
     let jobs = serve_all(rt, alloc, jobs, secret, limits);
@@ -180,7 +182,7 @@ pub fn serve<
         rt,
         alloc,
         archive,
-        entries.as_slice(),
+        entries,
         admit,
         Opened::new(),
         Blank::new(count as u64),

@@ -24,7 +24,7 @@ use Rattle.streams.specs.Effects.{Grew, WritesPart, PutsAll}
 use Rattle.streams.specs.View.{StreamView}
 use Rattle.centre_session.specs.Clocks.{GaveAll}
 use Rattle.centre_session.specs.Items.{Item, asked, refused, closing, over, cut, Says, AreItems, AreFirst, AreOpen, BeginsHead, IsInterim, item_output, output_of, memory_reply}
-use Rattle.centre_session.specs.Session.{Scene, scene, moments_of, but_last, Session, Ended, Broken, RanOut, WritesOr, SessionRow}
+use Rattle.centre_session.specs.Session.{Scene, scene, moments_of, but_last, Session, Ended, Broken, RanOut, WritesLast, SessionRow}
 use Rattle.centre_session.specs.Steps.{ItemRow, ShortRow, EndRow, end_by}
 use Rattle.centre_session.specs.Turns.{Serves}
 use Rattle.centre_session.specs.declared.ending.SessionEnd.{SessionEnd}
@@ -326,9 +326,9 @@ module _ (x y : Scene) (s : Setting) (turns : List Turn) (held : List ℕ) (so :
 
   module _ (z : Scene) (new : List Turn) (result : Result (Unit {0}) WriteFault) (row : ShortRow (scene y.stand link y.given) z turns new result) where
     -- what was written before the last reply
-    ran_out_by : (interim behind : List ℕ) → Session x (scene y.stand link y.given) s so.items turns so.replies behind → IsInterim behind interim → Grew y.link.written link.written interim
+    ran_out_by : (interim behind : List ℕ) (session : Session x (scene y.stand link y.given) s so.items turns so.replies behind) → session.taken ≡ so.used ++ behind → IsInterim behind interim → Grew y.link.written link.written interim
         → RanOut x z s new
-    ran_out_by interim behind session is grew = record {
+    ran_out_by interim behind session split is grew = record {
       items = so.items;
       replies = so.replies;
       done = turns;
@@ -343,6 +343,7 @@ module _ (x y : Scene) (s : Setting) (turns : List Turn) (held : List ℕ) (so :
         serves = subst (λ (st : Stand). Serves x.stand st s so.items turns so.replies) (sym row.stand) so.serves;
         later = omega (arith, so.later, later, row.puts.cause.later);
       };
+      none_closes = record { used = so.used; split = split; open_are = so.open_are };
       short = row.short;
       no_entry = row.no_entry;
       front = row.front ∙ ap (λ (st : Stand). length st.seen) (sym row.stand);
@@ -357,26 +358,22 @@ module _ (x y : Scene) (s : Setting) (turns : List Turn) (held : List ℕ) (so :
         before = Grew-then x.link.written y.link.written link.written (output_of so.items so.replies) interim so.wrote grew
 
         by_result : (res : Result (Unit {0}) WriteFault) → PutsAll link z.link res (reply_bytes (memory_reply row.turn.front true false))
-            → WritesOr x.link z.link (output_of so.items so.replies ++ (interim ++ reply_bytes (memory_reply row.turn.front true false)))
-        by_result (Ok done) puts = inl (subst (λ (w : List ℕ). Grew x.link.written z.link.written w) (append_assoc (output_of so.items so.replies) interim (reply_bytes (memory_reply row.turn.front true false)))
-            (Grew-then x.link.written link.written z.link.written (output_of so.items so.replies ++ interim) (reply_bytes (memory_reply row.turn.front true false)) before puts.ok))
-        by_result (Err fault) puts = inr (
-          omega (arith, so.later, later, puts.cause.failed),
-          record {
-            part = (output_of so.items so.replies ++ interim) ++ puts.part.part;
-            rest = puts.part.rest;
-            split =
-                sym (append_assoc (output_of so.items so.replies) interim (reply_bytes (memory_reply row.turn.front true false)))
-                ∙ (ap (λ (w : List ℕ). (output_of so.items so.replies ++ interim) ++ w) puts.part.split ∙ sym (append_assoc (output_of so.items so.replies ++ interim) puts.part.part puts.part.rest));
-            output = Grew-then x.link.written link.written z.link.written (output_of so.items so.replies ++ interim) puts.part.part before puts.part.output;
-          },
-        )
+            → WritesLast x.link z.link (output_of so.items so.replies ++ interim) (reply_bytes (memory_reply row.turn.front true false))
+        by_result (Ok done) puts = inl (Grew-then x.link.written link.written z.link.written (output_of so.items so.replies ++ interim) (reply_bytes (memory_reply row.turn.front true false)) before puts.ok)
+        by_result (Err fault) puts = inr (record {
+          rose = omega (arith, so.later, later, puts.cause.failed);
+          part = puts.part.part;
+          rest = puts.part.rest;
+          split = puts.part.split;
+          output = Grew-then x.link.written link.written z.link.written (output_of so.items so.replies ++ interim) puts.part.part before puts.part.output;
+        })
 
     pub ran_out : RunsOut body_limit y.link.left held y.link.written link.written → RanOut x z s new
+    unfolding stands
     ran_out runs =
-        ⊎_elim (λ (quiet : link.written ≡ y.link.written). ran_out_by [] (held ++ []) (stands [] y.link.left (consumes_none y.link.left)) (inl refl) (grew_same y.link.written y.link.written link.written [] (grew_none y.link.written) quiet))
+        ⊎_elim (λ (quiet : link.written ≡ y.link.written). ran_out_by [] (held ++ []) (stands [] y.link.left (consumes_none y.link.left)) (split_more []) (inl refl) (grew_same y.link.written y.link.written link.written [] (grew_none y.link.written) quiet))
         (λ (w : (head : HeadView) × ReadsHead body_limit y.link.left held head × Grew y.link.written link.written (interim_of head)).
-        ran_out_by (interim_of w.0) (held ++ w.1.taken) (stands w.1.taken w.1.later w.1.lost) (inr (begun w.1, refl)) w.2) runs
+        ran_out_by (interim_of w.0) (held ++ w.1.taken) (stands w.1.taken w.1.later w.1.lost) (split_more w.1.taken) (inr (begun w.1, refl)) w.2) runs
 
   -- ---- a head is refused
 

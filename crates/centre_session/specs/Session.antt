@@ -11,7 +11,7 @@ use Rattle.http_wire.specs.declared.turn.Turn.{Turn}
 use Rattle.streams.specs.Effects.{Grew, WritesPart}
 use Rattle.streams.specs.View.{StreamView}
 use Rattle.centre_session.specs.Clocks.{GaveAll}
-use Rattle.centre_session.specs.Items.{Item, Ending, closing, over, cut, AreItems, AreFirst, IsInterim, output_of, memory_reply}
+use Rattle.centre_session.specs.Items.{Item, Ending, closing, over, cut, AreItems, AreFirst, AreOpen, IsInterim, output_of, memory_reply}
 use Rattle.centre_session.specs.Turns.{Serves}
 use Rattle.centre_session.specs.declared.ending.SessionEnd.{SessionEnd}
 use Rattle.centre_session.specs.declared.ending.SessionEnd.TheVariants.{Closed, Cut, LinkFault, Memory}
@@ -75,12 +75,26 @@ pub record Broken (before after : Scene) (s : Setting) (turns : List Turn) : Typ
   pub wrote : WritesPart before.link.written after.link.written (output_of items replies ++ interim)
   pub whole : length (output_of (but_last items) (but_last replies)) ≤ length wrote.part
 
--- these bytes were written, or a first part of them where the link failed
-abbrev pub WritesOr : StreamView → StreamView → List ℕ → Type 0
-WritesOr before after bytes = Grew before.written after.written bytes ⊎ (Rose before.faults after.faults × WritesPart before.written after.written bytes)
+-- these items are whole requests, none of which closes, and the bytes of all that was taken but what is behind them
+pub record NoneCloses (taken behind : List ℕ) (items : List Item) : Type 0 where
+  pub used : List ℕ
+  pub split : taken ≡ used ++ behind
+  pub open_are : AreOpen 0 used items
+
+-- the link failed when some bytes were written, and behind them a first part of the last ones
+pub record CutsLast (before after : StreamView) (front last : List ℕ) : Type 0 where
+  pub rose : Rose before.faults after.faults
+  pub part : List ℕ
+  pub rest : List ℕ
+  pub split : last ≡ part ++ rest
+  pub output : Grew before.written after.written (front ++ part)
+
+-- these bytes were written, and behind them the last ones, or a first part of the last ones where the link failed
+abbrev pub WritesLast : StreamView → StreamView → List ℕ → List ℕ → Type 0
+WritesLast before after front last = Grew before.written after.written (front ++ last) ⊎ CutsLast before after front last
 
 -- A session in which memory ran out while a request was read: one short turn more, and a reply of 500 that closes, or a
--- first part of it where the link failed.
+-- first part of it where the link failed. No request before it closes, and all of their output is whole.
 pub record RanOut (before after : Scene) (s : Setting) (turns : List Turn) : Type 0 where
   pub items : List Item
   pub replies : List Reply
@@ -89,13 +103,14 @@ pub record RanOut (before after : Scene) (s : Setting) (turns : List Turn) : Typ
   pub turns_are : turns ≡ done ++ last ∷ []
   pub behind : List ℕ
   pub session : Session before after s items done replies behind
+  pub none_closes : NoneCloses session.taken behind items
   pub short : last.short ≡ true
   pub no_entry : last.entry ≡ None
   pub front : last.front ≡ length after.stand.seen
   pub moments : GaveAll before.given after.given (moments_of turns)
   pub interim : List ℕ
   pub interim_is : IsInterim behind interim
-  pub wrote : WritesOr before.link after.link (output_of items replies ++ (interim ++ reply_bytes (memory_reply last.front true false)))
+  pub wrote : WritesLast before.link after.link (output_of items replies ++ interim) (reply_bytes (memory_reply last.front true false))
 
 abbrev pub SessionRow : Scene → Scene → Setting → List Turn → SessionEnd → Type 0
 SessionRow before after s turns Closed = Ended before after s turns closing ⊎ Ended before after s turns over

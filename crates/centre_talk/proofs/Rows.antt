@@ -18,7 +18,7 @@ use Rattle.archive_log.specs.declared.fault.StartFault.{StartFault}
 use Rattle.archive_log.specs.declared.fault.StartFault.TheVariants as start
 use Rattle.centre_talk.specs.declared.ending.TalkStop.TheVariants.{OutOfMemory}
 use Rattle.centre_talk.specs.Stops.{ending_of, stop_for_start}
-use Rattle.centre_talk.specs.Talk.{Place, IsFresh, NotOpened, HasTalked, Calm, TalkRow}
+use Rattle.centre_talk.specs.Talk.{Place, IsFresh, NotOpened, HasTalked, Calm, NoneFailed, Undisturbed, TalkRow}
 
 -- in every session what the desk sees goes on
 pub row_goes_on : (before after : Scene) (s : Setting) (turns : List Turn) (end : SessionEnd) → SessionRow before after s turns end → GoesOn before.stand after.stand
@@ -54,6 +54,7 @@ talked s first before after turns end stopped opens served =
       history = opens.history;
       some = opens.some;
       images = λ tells. served.images (told ∙ tells);
+      keeps = λ tells. served.keeps (told ∙ tells);
       tells = served.tells ∙ told;
       stops = λ some. rose_before before.disk.faults served.last.footing.faults after.disk.faults since (served.cause some);
     }
@@ -76,6 +77,16 @@ calm s first before after turns end opens served = record {
   no_stop = none_stopped served.last.stops served.stopped_is;
 }
 
+-- no stream failed
+none_failed : (before after : Place) → (IsTrue false ↔ Rose before.source.faults after.source.faults) → (IsTrue false ↔ Rose before.sink.faults after.sink.faults) → NoneFailed before after
+none_failed before after is_read is_write = record { source = λ r. false≢true (is_read.1 r); sink = λ r. false≢true (is_write.1 r) }
+
+undisturbed : (s : Setting) (first : Stand) (before after : Place) (turns : List Turn) (end : SessionEnd) → Opens before.disk first → ServedOver s (scene first (joined before.source before.sink) before.given) (joined after.source after.sink) after.given after.disk turns end false
+    → (IsTrue false ↔ Rose before.source.faults after.source.faults) → (IsTrue false ↔ Rose before.sink.faults after.sink.faults)
+    → Undisturbed s before after (Some turns) end
+undisturbed s first before after turns end opens served is_read is_write =
+    record { calm = calm s first before after turns end opens served; none = none_failed before after is_read is_write }
+
 pub talk_row : (s : Setting) (first : Stand) (before after : Place) (turns : List Turn) (end : SessionEnd) (stopped read write : Bool)
     → Opens before.disk first → ServedOver s (scene first (joined before.source before.sink) before.given) (joined after.source after.sink) after.given after.disk turns end stopped
     → (IsTrue read ↔ Rose before.source.faults after.source.faults) → (IsTrue write ↔ Rose before.sink.faults after.sink.faults)
@@ -86,13 +97,13 @@ talk_row s first before after turns end true read write opens served is_read is_
 talk_row s first before after turns end false true write opens served is_read is_write =
     record { end = end; calm = calm s first before after turns end opens served; rose = is_read.0 refl }
 talk_row s first before after turns end false false true opens served is_read is_write =
-    record { end = end; calm = calm s first before after turns end opens served; rose = is_write.0 refl }
-talk_row s first before after turns session.Closed false false false opens served is_read is_write = calm s first before after turns session.Closed opens served
-talk_row s first before after turns session.Cut false false false opens served is_read is_write = calm s first before after turns session.Cut opens served
-talk_row s first before after turns session.Memory false false false opens served is_read is_write = inr (inl (calm s first before after turns session.Memory opens served))
+    record { end = end; calm = calm s first before after turns end opens served; source = λ r. false≢true (is_read.1 r); rose = is_write.0 refl }
+talk_row s first before after turns session.Closed false false false opens served is_read is_write = undisturbed s first before after turns session.Closed opens served is_read is_write
+talk_row s first before after turns session.Cut false false false opens served is_read is_write = undisturbed s first before after turns session.Cut opens served is_read is_write
+talk_row s first before after turns session.Memory false false false opens served is_read is_write = inr (inl (undisturbed s first before after turns session.Memory opens served is_read is_write))
 talk_row s first before after turns session.LinkFault false false false opens served is_read is_write =
     inr (inr (record {
-      calm = calm s first before after turns session.LinkFault opens served;
+      undisturbed = undisturbed s first before after turns session.LinkFault opens served is_read is_write;
       full = no_room before.source.faults before.sink.faults after.source.faults after.sink.faults served.over.row.rose (λ r. false≢true (is_read.1 r)) (λ r. false≢true (is_write.1 r));
     }))
 

@@ -11,7 +11,7 @@ use Rattle.archive_log.specs.declared.fault.StartFault.TheVariants as start
 use Rattle.desk_words.specs.Setting.{Setting}
 use Rattle.desk_words.specs.Stand.{Stand, nothing}
 use Rattle.http_wire.specs.declared.turn.Turn.{Turn}
-use Rattle.owned_desk.specs.Owned.{LeavesLeft}
+use Rattle.owned_desk.specs.Owned.{LeavesLeft, KeepsHistory}
 use Rattle.streams.specs.View.{StreamView}
 use Rattle.centre_session.specs.Session.{scene, SessionRow}
 use Rattle.centre_session.specs.declared.ending.SessionEnd.{SessionEnd}
@@ -39,7 +39,8 @@ pub record IsFresh (desk : Stand) : Type 0 where
 
 -- A session that ended so. It was served by a desk over the archive that the disk's file holds: what the desk saw first is
 -- the history that the file's bytes spell. Every file that a crash then leaves is a journal of what the desk saw last, with
--- or without what it left. It stopped a command only where the disk failed.
+-- or without what it left, and that is a history in which what was left comes next: so each of them opens. It stopped a command
+-- only where the disk failed.
 pub record HasTalked (s : Setting) (before after : Place) (turns : List Turn) (end : SessionEnd) : Type 0 where
   pub first : Stand
   pub last : Stand
@@ -48,6 +49,7 @@ pub record HasTalked (s : Setting) (before after : Place) (turns : List Turn) (e
   pub history : WhereTold before.disk (IsHistoryOf (file_of before.disk) first.seen)
   pub some : 1 ≤ length first.seen
   pub images : WhereTold before.disk (LeavesLeft after.disk.may_leave last.seen last.left)
+  pub keeps : WhereTold before.disk (KeepsHistory last.seen last.left)
   pub tells : is_told after.disk ≡ is_told before.disk
   pub stops : 0 < last.stops → Rose before.disk.faults after.disk.faults
 
@@ -76,33 +78,44 @@ pub record Stopped (s : Setting) (before after : Place) (trail : Option (List Tu
   pub talked : HasTalked s before after turns end
   pub stopped : 0 < talked.last.stops
 
+-- neither the source nor the sink failed
+pub record NoneFailed (before after : Place) : Type 0 where
+  pub source : Rose before.source.faults after.source.faults → ⊥
+  pub sink : Rose before.sink.faults after.sink.faults → ⊥
+
+-- a session without a stop and without a fault of a stream, that ended so
+pub record Undisturbed (s : Setting) (before after : Place) (trail : Option (List Turn)) (end : SessionEnd) : Type 0 where
+  pub calm : Calm s before after trail end
+  pub none : NoneFailed before after
+
 -- a session without a stop, in which the source failed
 pub record ReadFailed (s : Setting) (before after : Place) (trail : Option (List Turn)) : Type 0 where
   pub end : SessionEnd
   pub calm : Calm s before after trail end
   pub rose : Rose before.source.faults after.source.faults
 
--- a session without a stop, in which the sink failed
+-- a session without a stop, in which the sink failed, and the source didn't
 pub record WriteFailed (s : Setting) (before after : Place) (trail : Option (List Turn)) : Type 0 where
   pub end : SessionEnd
   pub calm : Calm s before after trail end
+  pub source : Rose before.source.faults after.source.faults → ⊥
   pub rose : Rose before.sink.faults after.sink.faults
 
 -- the counts of the source and the sink had no room together for another fault, so that it isn't known which of them
 -- failed
 pub record HasLostCount (s : Setting) (before after : Place) (trail : Option (List Turn)) : Type 0 where
-  pub calm : Calm s before after trail session.LinkFault
+  pub undisturbed : Undisturbed s before after trail session.LinkFault
   pub full : 18_446_744_073_709_551_615 ≤ before.source.faults + before.sink.faults
 
 -- How it ends, and what that leaves: the archive isn't opened; else a stopped command counts before a fault of the source,
 -- that before one of the sink, that before want of memory, and that before a request that is cut.
 abbrev pub TalkRow : Setting → Place → Place → Option (List Turn) → Result (Unit {0}) TalkStop → Type 0
-TalkRow s before after trail (Ok done) = Calm s before after trail session.Closed
-TalkRow s before after trail (Err RequestCut) = Calm s before after trail session.Cut
+TalkRow s before after trail (Ok done) = Undisturbed s before after trail session.Closed
+TalkRow s before after trail (Err RequestCut) = Undisturbed s before after trail session.Cut
 TalkRow s before after trail (Err ReadFault) = ReadFailed s before after trail
 TalkRow s before after trail (Err WriteFault) = WriteFailed s before after trail
 TalkRow s before after trail (Err DiskFault) = NotOpened before after trail start.DiskFault ⊎ Stopped s before after trail
 TalkRow s before after trail (Err OutOfMemory) =
-    NotOpened before after trail start.OutOfMemory ⊎ (Calm s before after trail session.Memory ⊎ HasLostCount s before after trail)
+    NotOpened before after trail start.OutOfMemory ⊎ (Undisturbed s before after trail session.Memory ⊎ HasLostCount s before after trail)
 TalkRow s before after trail (Err NotAJournal) = NotOpened before after trail start.NotAJournal
 TalkRow s before after trail (Err (Damaged at)) = NotOpened before after trail (start.Damaged at)

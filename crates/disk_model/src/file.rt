@@ -8,12 +8,17 @@ use crate::disk::Disk;
 use exact_time::Failed;
 use std::fs::{File, Files, OpenFile, OpenOptions};
 use std::io::{self, Read, Seek, SeekFrom, Write};
+use std::os::unix::fs::OpenOptionsExt;
 use std::path::Path;
 
 // The first length that a file can't have.
 const LIMIT: u64 = 1 << 63;
 
-/// A file, which is opened at the first call. Without a path every call fails. After a `sync` that failed
+// Its owner alone may read and write it: it holds what opens the archive.
+const MODE: u32 = 0o600;
+
+/// A regular file, which is opened at the first call, under the system's lock on whole files (flock(2)), so that no two processes
+/// write to it. Without a path every call fails, and so does one while another process holds the lock. After a `sync` that failed
 /// every further call fails too: a system may drop what was written and answer the next sync with success.
 #[derive(Drop)]
 pub struct FileDisk<R: Files> {
@@ -24,9 +29,11 @@ pub struct FileDisk<R: Files> {
     faults: u64,
     // Whether a sync failed.
     spoiled: bool,
+    // Whether another process held the lock when the file was last opened.
+    in_use: bool,
 }
 
-impl<R: Files> FileDisk<R> {
+impl<R: Files<File = File>> FileDisk<R> {
     ghost use Rattle.disk_model.specs.File.{is_spoiled, times_failed, Endures};
 
     /// The file at this path, which is made where there is none, if it may be made.
@@ -41,7 +48,13 @@ impl<R: Files> FileDisk<R> {
             file: None,
             faults: 0,
             spoiled: false,
+            in_use: false,
         }
+    }
+
+    /// Whether the file could not be opened because another process has it open as a disk.
+    pub fn is_in_use(&self) -> bool {
+        self.in_use
     }
 
     // The open file, for one call. A spoiled disk has none.
@@ -60,6 +73,7 @@ impl<R: Files> FileDisk<R> {
             Some(path) => open(&self.files, path.as_str(), self.may_make),
             None => Err(io::ErrorKind::NotFound.into()),
         };
+        self.in_use = is_refused_lock(&opened);
         self.count(opened)
     }
 
@@ -107,17 +121,41 @@ impl<R: Files> FileDisk<R> {
     }
 }
 
+// Whether a file was not opened because its lock is held. An open that would block is no other error of a regular file.
+fn is_refused_lock(opened: &io::Result<File>) -> bool {
+    match opened {
+        Ok(_) => false,
+        Err(error) => error.kind() == io::ErrorKind::WouldBlock,
+    }
+}
+
+// Makes the file, where there is none.
+fn make<R: Files<File = File>>(files: &R, path: &str) -> io::Result<File> {
+    OpenOptions::new()
+        .read(true)
+        .write(true)
+        .create_new(true)
+        .mode(MODE)
+        .open(files, path)
+}
+
+// Takes the lock of a regular file, which it keeps until it is closed.
+fn claim(file: &File) -> io::Result<()> {
+    if !file.metadata()?.is_file() {
+        return Err(io::ErrorKind::InvalidInput.into());
+    }
+    file.try_lock()?;
+    Ok(())
+}
+
 // Opens the file. Where it may be made, its name is put on the disk too, also where an earlier call
 // made it.
-fn open<R: Files>(files: &R, path: &str, may_make: bool) -> io::Result<R::File> {
+fn open<R: Files<File = File>>(files: &R, path: &str, may_make: bool) -> io::Result<File> {
     let file = match OpenOptions::new().read(true).write(true).open(files, path) {
-        Err(error) if may_make && error.kind() == io::ErrorKind::NotFound => OpenOptions::new()
-            .read(true)
-            .write(true)
-            .create_new(true)
-            .open(files, path)?,
+        Err(error) if may_make && error.kind() == io::ErrorKind::NotFound => make(files, path)?,
         opened => opened?,
     };
+    claim(&file)?;
     if may_make {
         sync_folder(files, path)?;
     }
@@ -181,7 +219,7 @@ fn write_all_at<F: Write + Seek>(file: &mut F, at: u64, bytes: &[u8]) -> io::Res
     file.write_all(bytes)
 }
 
-impl<R: Files> Disk for FileDisk<R> {
+impl<R: Files<File = File>> Disk for FileDisk<R> {
     ghost use Rattle.disk_model.specs.File.{is_spoiled, times_failed, Endures, Spoils};
     ghost use Rattle.disk_model.specs.Untold.{untold, untold_view};
 

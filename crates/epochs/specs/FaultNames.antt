@@ -6,7 +6,7 @@ use Rattle.epochs.specs.declared.fault.LineFault.TheVariants as fault
 abbrev pub line_fault_text : LineFault → List ℕ
 line_fault_text fault.NoLine = codes "NoLine"
 line_fault_text fault.Form = codes "Form"
-line_fault_text fault.LineKind = codes "LineKind"
+line_fault_text fault.LineKind = codes "Kind"
 line_fault_text fault.Fields = codes "Fields"
 line_fault_text (fault.Value n) = codes "Value " ++ decimal n
 line_fault_text fault.Order = codes "Order"

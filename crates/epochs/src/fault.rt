@@ -29,7 +29,7 @@ impl fmt::Display for LineFault {
         match self {
             LineFault::NoLine => f.write_str("NoLine"),
             LineFault::Form => f.write_str("Form"),
-            LineFault::LineKind => f.write_str("LineKind"),
+            LineFault::LineKind => f.write_str("Kind"),
             LineFault::Fields => f.write_str("Fields"),
             LineFault::Value(field) => write!(f, "Value {field}"),
             LineFault::Order => f.write_str("Order"),

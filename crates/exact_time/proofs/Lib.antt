@@ -6,6 +6,7 @@ pub mod DecimalTexts
 pub mod DecimalsWritten
 pub mod Digits
 pub mod Examples
+pub mod InnerParts
 pub mod Lowest
 pub mod MomentFound
 pub mod MomentTexts

@@ -3,6 +3,7 @@ pub mod Causes
 pub mod Clock
 pub mod DecimalSteps
 pub mod Decimals
+pub mod Held
 pub mod MomentText
 pub mod Rate
 pub mod RateOrder

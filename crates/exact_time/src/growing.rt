@@ -1,19 +1,29 @@
-ghost use Rattle.std.specs.Prelude.{◌≡◌, ℕ, ◌<◌, ◌↔◌, List, [], ◌∷◌, ◌++◌, length, IsTrue, IsSome, IfOk, OnOk, OnErr, option_to_list};
+ghost use Rattle.std.specs.Prelude.{◌≡◌, ℕ, ◌<◌, ◌≤◌, ◌↔◌, List, [], ◌∷◌, ◌++◌, length, slice_range, IsTrue, IsSome, IfOk, OnOk, OnErr, option_to_list};
 
 use crate::OutOfMemory;
+use crate::part::Part;
 use std::alloc::Global;
 use std::marker::Model;
+
+#[derive(Debug, Drop)]
+enum Held {
+    Own(Vec<u8>),
+    Shared(Part),
+}
 
 /// Bytes that can grow at their end.
 #[derive(Debug, Drop)]
 pub struct Bytes {
-    inner: Vec<u8>,
+    held: Held,
 }
 
 impl Model for Bytes {
+    ghost use Rattle.std.specs.Prelude.{List, ℕ};
+    ghost use Rattle.exact_time.specs.Held.{held_bytes};
+
     ghost Value = { List ℕ };
 
-    ghost view = { λ b. b.inner.items };
+    ghost view = { λ b. held_bytes b.held };
 }
 
 impl Bytes {
@@ -22,7 +32,7 @@ impl Bytes {
         ensures { result ≡ [] }
     {
         Bytes {
-            inner: Vec::new(alloc),
+            held: Held::Own(Vec::new(alloc)),
         }
     }
 
@@ -30,33 +40,91 @@ impl Bytes {
     pub fn from_vec(bytes: Vec<u8>) -> Bytes
         ensures { result ≡ bytes.items }
     {
-        Bytes { inner: bytes }
+        Bytes {
+            held: Held::Own(bytes),
+        }
     }
 
-    /// A copy of the bytes.
+    /// The same bytes, which copies and parts of them share from now on. Copies nothing.
+    pub fn share(self) -> Result<Bytes, OutOfMemory>
+        ensures { IfOk result (λ shared. shared ≡ self) }
+    {
+        let Bytes { held } = self;
+        let own = match held {
+            Held::Own(own) => own,
+            Held::Shared(part) => {
+                return Ok(Bytes {
+                    held: Held::Shared(part),
+                });
+            }
+        };
+        Ok(Bytes {
+            held: Held::Shared(Part::of(own)?),
+        })
+    }
+
+    /// The same bytes. Copies nothing where they are shared.
     pub fn copy(&self, alloc: Global) -> Result<Bytes, OutOfMemory>
         ensures { IfOk result (λ copy. copy ≡ self.now) }
     {
-        let mut copy = Bytes::new(alloc);
-        copy.extend(self.as_slice())?;
-        Ok(copy)
+        self.part(alloc, 0, self.len())
     }
 
-    /// Puts a byte at the end.
+    /// The bytes from one place to another. Copies nothing where they are shared.
+    pub fn part(&self, alloc: Global, from: usize, end: usize) -> Result<Bytes, OutOfMemory>
+        requires { (from ≤ end) × (end ≤ length self.now) }
+        ensures { IfOk result (λ part. part ≡ slice_range self.now from end) }
+    {
+        match &self.held {
+            Held::Own(own) => {
+                let mut copy = Vec::new(alloc);
+                copy.extend_from_slice(&own.as_slice()[from..end])?;
+                Ok(Bytes {
+                    held: Held::Own(copy),
+                })
+            }
+            Held::Shared(part) => {
+                let part = part.part(from, end)?;
+                Ok(Bytes {
+                    held: Held::Shared(part),
+                })
+            }
+        }
+    }
+
+    /// Puts a byte at the end. Copies what others share.
     pub fn push(&mut self, byte: u8) -> Result<(), OutOfMemory>
         ensures ok { OnOk result (self.new ≡ self.old ++ byte ∷ []) }
         ensures err { OnErr result (self.new ≡ self.old) }
     {
-        self.inner.push(byte)?;
+        match &mut self.held {
+            Held::Own(own) => {
+                own.push(byte)?;
+            }
+            Held::Shared(part) => {
+                let mut own = part.copied()?;
+                own.push(byte)?;
+                self.held = Held::Own(own);
+            }
+        }
         Ok(())
     }
 
-    /// Puts some bytes at the end, in one copy.
+    /// Puts some bytes at the end, in one copy. Copies what others share.
     pub fn extend(&mut self, piece: &[u8]) -> Result<(), OutOfMemory>
         ensures ok { OnOk result (self.new ≡ self.old ++ piece.now) }
         ensures err { OnErr result (self.new ≡ self.old) }
     {
-        self.inner.extend_from_slice(piece)?;
+        match &mut self.held {
+            Held::Own(own) => {
+                own.extend_from_slice(piece)?;
+            }
+            Held::Shared(part) => {
+                let mut own = part.copied()?;
+                own.extend_from_slice(piece)?;
+                self.held = Held::Own(own);
+            }
+        }
         Ok(())
     }
 
@@ -64,21 +132,24 @@ impl Bytes {
     pub fn as_slice(&self) -> &[u8]
         ensures { result.now ≡ self.now }
     {
-        self.inner.as_slice()
+        match &self.held {
+            Held::Own(own) => own.as_slice(),
+            Held::Shared(part) => part.as_slice(),
+        }
     }
 
     /// How many bytes there are.
     pub fn len(&self) -> usize
         ensures { result ≡ length self.now }
     {
-        self.inner.len()
+        self.as_slice().len()
     }
 
     /// Whether there is no byte.
     pub fn is_empty(&self) -> bool
         ensures { IsTrue result ↔ (self.now ≡ []) }
     {
-        self.inner.is_empty()
+        self.as_slice().is_empty()
     }
 }
 

@@ -25,6 +25,7 @@ mod fields;
 mod growing;
 mod law;
 mod moment;
+mod part;
 mod rate_order;
 mod ratio;
 mod reading;

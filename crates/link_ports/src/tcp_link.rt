@@ -73,11 +73,16 @@ impl Stream for TcpLink {
 }
 
 impl Source for TcpLink {
+    // A process that is stopped while it waits, and goes on, finds its wait interrupted (signal(7)): then it waits again.
     fn take(&mut self, into: &mut [u8]) -> Result<usize, Failed> {
-        match self.stream.read(into) {
-            Ok(count) => Ok(count),
-            Err(_) => Err(self.fail()),
+        'waits: for _ in 0..u64::MAX {
+            match self.stream.read(into) {
+                Ok(count) => return Ok(count),
+                Err(error) if error.kind() == io::ErrorKind::Interrupted => {}
+                Err(_) => return Err(self.fail()),
+            }
         }
+        Err(self.fail())
     }
 }
 
@@ -86,10 +91,14 @@ impl Sink for TcpLink {
         if piece.is_empty() {
             return Ok(0);
         }
-        match self.stream.write(piece) {
-            Ok(count) if count > 0 => Ok(count),
-            _ => Err(self.fail()),
+        'waits: for _ in 0..u64::MAX {
+            match self.stream.write(piece) {
+                Ok(count) if count > 0 => return Ok(count),
+                Err(error) if error.kind() == io::ErrorKind::Interrupted => {}
+                _ => return Err(self.fail()),
+            }
         }
+        Err(self.fail())
     }
 }
 

@@ -23,12 +23,21 @@ const NO_HANDLE: i32 = 24;
 
 const NO_HANDLE_AT_ALL: i32 = 23;
 
+// No memory is left for a socket.
+const NO_MEMORY: i32 = 12;
+
+const NO_BUFFERS: i32 = 105;
+
+// Errors that the network may have pending for a connection that is accepted (accept(2), "Error handling"), and that a firewall
+// forbids it: EPROTO, ENOPROTOOPT, EHOSTDOWN, ENONET, EOPNOTSUPP, EPERM, ETIMEDOUT.
+const OF_ONE_CONNECTION: [i32; 7] = [71, 92, 112, 64, 95, 1, 110];
+
 // What an error of accepting a connection asks for.
 #[derive(Clone, Copy)]
 enum Advice {
     // It was that connection's own: the next one may be well.
     Again,
-    // There are no file handles: others may end.
+    // There are no file handles, or no memory for a socket: others may end.
     Wait,
     // It stays.
     GiveUp,
@@ -44,7 +53,8 @@ fn advice_on(error: &io::Error) -> Advice {
         | io::ErrorKind::NetworkUnreachable
         | io::ErrorKind::HostUnreachable => Advice::Again,
         _ => match error.raw_os_error() {
-            Some(NO_HANDLE | NO_HANDLE_AT_ALL) => Advice::Wait,
+            Some(NO_HANDLE | NO_HANDLE_AT_ALL | NO_MEMORY | NO_BUFFERS) => Advice::Wait,
+            Some(code) if OF_ONE_CONNECTION.contains(&code) => Advice::Again,
             _ => Advice::GiveUp,
         },
     }
@@ -54,7 +64,7 @@ fn advice_on(error: &io::Error) -> Advice {
 /// where a number is given. It tells nothing but its faults.
 ///
 /// A connection that was lost before it could be given is a fault, and the next one is waited for. Where there are no file
-/// handles, that is a fault, and it tries again a tenth of a second later, a hundred times; then the call fails. So it does
+/// handles, or no memory for a socket, that is a fault, and it tries again a tenth of a second later, a hundred times; then the call fails. So it does
 /// where the address can't be listened at, or where it has none. A link that comes back is closed; what its client still sends is read for a short
 /// time, so that it gets its last reply.
 #[derive(Drop)]
@@ -112,7 +122,11 @@ impl<N: Net<Listener = TcpListener, Stream = TcpStream> + Clock> TcpPort<N> {
             return Err(io::Error::from(io::ErrorKind::NotConnected));
         };
         let (stream, _) = listener.accept()?;
-        TcpLink::new(stream, self.patience)
+        match TcpLink::new(stream, self.patience) {
+            Ok(link) => Ok(link),
+            // A setting that the system refuses loses that connection alone.
+            Err(_) => Err(io::Error::from(io::ErrorKind::ConnectionAborted)),
+        }
     }
 
     // The next link, whatever is lost before it.

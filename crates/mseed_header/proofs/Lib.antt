@@ -1,6 +1,7 @@
 pub mod Batches
 pub mod Chains
 pub mod CodeFields
+pub mod CutParts
 pub mod Examples
 pub mod Fronts
 pub mod Headers

@@ -2,7 +2,7 @@
 //!
 //! What the crates above use: [`read_header`] is the header relation, both ways, and tells the first
 //! test that isn't passed (`specs/Header.antt`; SEED 2.4, fixed section of data header, blockettes
-//! 1000 and 1001), and [`cut_records`] cuts bytes into the records that stand in them end to end
+//! 1000 and 1001), and [`cut_body`] cuts bytes into the records that stand in them end to end
 //! (`specs/Records.antt`). [`count_records`] counts them without memory. A [`Row`] is a record with what
 //! its header says; its type keeps that the header is that of the bytes. By the laws of `src/law.rt` every
 //! byte string has exactly one answer of each.
@@ -24,7 +24,7 @@ mod row;
 mod times;
 
 pub use batch::count_records;
-pub use cut::{CutFault, cut_records};
+pub use cut::{CutFault, cut_body, cut_records};
 pub use header::{Header, RecordFault};
 pub use law::{
     a_refusal_stays, bytes_are_records_or_one_is_the_first_refused,

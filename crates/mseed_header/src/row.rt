@@ -43,12 +43,26 @@ impl Row {
     {
         let mut bytes = Bytes::new(alloc);
         bytes.extend(image)?;
-        Ok(Row {
+        Ok(Row::with(header, bytes, entry, place, moment))
+    }
+
+    /// The row of a record, whose bytes are `image`. Copies nothing.
+    pub fn with(header: Header, image: Bytes, entry: u64, place: u32, moment: Moment) -> Row
+        requires head { IsRecord image header }
+        requires since_1970 { pos 0 ≤ℤ moment.micros }
+        requires before_2600 { moment.micros <ℤ pos 19_880_899_200_000_000 }
+        ensures header { result.header ≡ header }
+        ensures image { result.image ≡ image }
+        ensures entry { result.entry ≡ entry }
+        ensures place { result.place ≡ place }
+        ensures moment { result.moment ≡ moment }
+    {
+        Row {
             header,
-            image: bytes,
+            image,
             entry,
             place,
             moment,
-        })
+        }
     }
 }

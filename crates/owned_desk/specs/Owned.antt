@@ -1,8 +1,8 @@
 -- What an owned desk stands for, and what its disk holds.
-use Rattle.std.specs.Prelude.{ℕ, Bool, true, List, [], ◌∷◌, ◌++◌, Option, None, Some}
+use Rattle.std.specs.Prelude.{ℕ, Bool, true, List, [], ◌∷◌, ◌++◌, ⊤, Option, None, Some}
 use Rattle.disk_model.specs.Disk.{Leaves}
 use Rattle.archive_entry.specs.declared.entry.Entry.{Entry}
-use Rattle.archive_log.specs.Histories.{Recovers, RecoversWithOrWithout}
+use Rattle.archive_log.specs.Histories.{IsHistory, IsNextEntry, Recovers, RecoversWithOrWithout}
 use Rattle.desk_words.specs.Stand.{Stand, Left, nothing, short, stopped}
 
 -- what is left: the entry that waits, or the one whose commit failed
@@ -27,3 +27,14 @@ abbrev pub LeavesLeft : (List ℕ → Type 0) → List Entry → Left → Type 0
 LeavesLeft images seen nothing = Leaves images (Recovers seen)
 LeavesLeft images seen (short e) = Leaves images (Recovers (seen ++ e ∷ []))
 LeavesLeft images seen (stopped e) = Leaves images (RecoversWithOrWithout seen e)
+
+-- what was left may come next
+abbrev pub ComesNext : List Entry → Left → Type 0
+ComesNext seen nothing = ⊤
+ComesNext seen (short e) = IsNextEntry seen e
+ComesNext seen (stopped e) = IsNextEntry seen e
+
+-- What was seen is a history, in which what was left may come next: so each file that a crash leaves is one that opens.
+pub record KeepsHistory (seen : List Entry) (left : Left) : Type 0 where
+  pub history : IsHistory seen
+  pub next : ComesNext seen left

@@ -38,7 +38,7 @@ pub fn entry_from(
         author,
         seq: posted.seq,
         kind: posted.kind,
-        body: posted.body.copy(alloc)?,
+        body: posted.body.copy(alloc)?.share()?,
     })
 }
 

@@ -8,7 +8,7 @@ ghost use Rattle.archive_state.specs.Admits.{IsAdmit};
 ghost use Rattle.archive_state.specs.Lawful.{IsLawful};
 ghost use Rattle.archive_log.specs.Histories.{IsHistoryOf, RecoversWithOrWithout};
 ghost use Rattle.archive_log.specs.Opening.{ExplainsStart};
-ghost use Rattle.owned_desk.specs.Owned.{LeavesLeft, left_of};
+ghost use Rattle.owned_desk.specs.Owned.{LeavesLeft, KeepsHistory, left_of};
 
 use crate::kept::OwnedDesk;
 use archive_entry::Entry;
@@ -85,6 +85,7 @@ impl<D: Disk> OwnedDesk<D> {
         ensures count { result ≡ length self.now.state }
         ensures stands { WhereTold (D.view self.now.archive.disk)
             (LeavesLeft (D.view self.now.archive.disk).may_leave self.now.state (left_of self.now.short self.now.archive.hand)) }
+        ensures history { WhereTold (D.view self.now.archive.disk) (KeepsHistory self.now.state (left_of self.now.short self.now.archive.hand)) }
         ensures rest { WhereTold (D.view self.now.archive.disk) (self.now.archive.stopped ≡ false
             → (e : Entry) → AlwaysLeaves (D.view self.now.archive.disk) (D.view self.now.archive.disk) (RecoversWithOrWithout (self.now.state ++ option_to_list self.now.short) e)) }
         ensures calm { 0 < self.now.stops → Rose self.now.archive.faults (D.view self.now.archive.disk).faults }
@@ -99,6 +100,9 @@ impl<D: Disk> OwnedDesk<D> {
         ensures disk { result ≡ self.archive.disk }
         ensures left { (⟦<OwnedDesk<D> as Desk>⟧.stand self).footing.told ≡ true
             → LeavesLeft (D.view result).may_leave (⟦<OwnedDesk<D> as Desk>⟧.stand self).seen (⟦<OwnedDesk<D> as Desk>⟧.stand self).left }
+        // What was seen is a lawful history, and what was left comes next in it.
+        ensures history { (⟦<OwnedDesk<D> as Desk>⟧.stand self).footing.told ≡ true
+            → KeepsHistory (⟦<OwnedDesk<D> as Desk>⟧.stand self).seen (⟦<OwnedDesk<D> as Desk>⟧.stand self).left }
         ensures calm { 0 < (⟦<OwnedDesk<D> as Desk>⟧.stand self).stops
             → Rose (⟦<OwnedDesk<D> as Desk>⟧.stand self).footing.faults (D.view result).faults }
     {

@@ -10,7 +10,7 @@ ghost use Rattle.archive_log.specs.Histories.{RecoversWithOrWithout};
 ghost use Rattle.desk_words.specs.Counts.{RoseWithin};
 ghost use Rattle.desk_words.specs.Posting.{can_be_posted, posted_entry};
 ghost use Rattle.desk_words.specs.Setting.{setting};
-ghost use Rattle.desk_words.specs.Stand.{Asks, Submits, CatchesUp};
+ghost use Rattle.desk_words.specs.Stand.{Asks, Asks, Submits, CatchesUp};
 ghost use Rattle.owned_desk.specs.Committing.{Commits, IsTheOne, first_hand};
 ghost use Rattle.owned_desk.specs.Owned.{stand_as};
 ghost use Rattle.owned_desk.specs.Waiting.{waits};
@@ -157,7 +157,12 @@ impl<D: Disk> Desk for OwnedDesk<D> {
         question: &Question,
         secret: &Secret,
         limits: &Limits,
-    ) -> Result<Answer, OutOfMemory> {
+    ) -> Result<Answer, OutOfMemory>
+        ensures row { Asks (stand_as (is_told (D.view self.old.archive.disk)) self.old.archive.faults self.old.state self.old.stops self.old.caught self.old.made self.old.short self.old.archive.hand)
+            (stand_as (is_told (D.view self.new.archive.disk)) self.new.archive.faults self.new.state self.new.stops self.new.caught self.new.made self.new.short self.new.archive.hand) question.now (setting secret.now limits.now) result }
+        // A question leaves the desk as it is.
+        ensures same { self.new ≡ self.old }
+    {
         let told = outcome(alloc, &self.state, question, secret, limits)?;
         Ok(Answer {
             front: self.state.entries().len() as u64,

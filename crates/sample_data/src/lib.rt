@@ -1,4 +1,4 @@
-//! What the tests' archives hold: a user's key, users, epochs, a record, a secret and a moment.
+//! What the tests' archives hold: a user's key, a founding file, users, epochs, a record, a secret and a moment.
 //!
 //! The tests of several crates share it. Nothing but tests uses it, so that its functions have no contracts.
 #![tactic(auto)]
@@ -12,6 +12,10 @@ pub const HA1: &str = "939e7578ed9e3c518a452acee763bce9";
 
 /// The same as bytes.
 pub const HA1_DIGITS: [u8; 32] = *b"939e7578ed9e3c518a452acee763bce9";
+
+/// The journal with the founding entry of op: 103 bytes.
+pub const FOUNDED: &[u8] =
+    b"FDSNARCHIVE-0001\x01\0\0\0\x51\0\0\0\0\0\0\0\x01\0\0\0\0\0\0\0\0\x02op\0\0\0\0\0\0\0\0\x02\0\0\0\x31USR|op|939e7578ed9e3c518a452acee763bce9|operator\n\0";
 
 /// A feed and a reader.
 pub const USERS: &str =

@@ -36,7 +36,7 @@ fn words_after(rt: &(impl Env + AllocGlobal), alloc: Global) -> io::Result<Vec<S
 }
 
 // The archive's file, if the words name one. It is opened at the first call.
-fn disk_for<R: Files + Drop>(
+fn disk_for<R: Files<File = File> + Drop>(
     files: R,
     alloc: Global,
     outside: &Outside,
@@ -123,5 +123,11 @@ fn main(rt: HostRuntime) -> ExitCode {
         &mut clock,
         workers,
     );
+    if ended.disk.is_in_use() {
+        let _ = put_all(
+            &mut errors,
+            b"centre: the journal is in use by another process\n",
+        );
+    }
     ExitCode::from(ended.status)
 }

@@ -1,14 +1,10 @@
-//! Tests of what goes over a link: streams in memory, requests, credentials, replies, ports.
+//! Tests of what goes over a link that need threads, sockets or a stream of their own. The other cases are those of `word_cases`.
 //!
 //! They stand apart from what they test, so that it is proved once.
 #![tactic(auto)]
 
 #[cfg(test)]
-mod credentials;
-#[cfg(test)]
 mod ends;
-#[cfg(test)]
-mod heads;
 #[cfg(test)]
 mod ports;
 #[cfg(test)]

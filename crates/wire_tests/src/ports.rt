@@ -38,34 +38,43 @@ fn first_of(link: &mut MemoryLink) -> Option<u8> {
 
 // A port with two links, whose second `accept` fails.
 fn port_of_two(alloc: Global) -> Result<MemoryPort<MemoryLink>, Fail> {
-    let mut links = Many::new(alloc);
-    links.push(link_of(alloc, b"A")?)?;
-    links.push(link_of(alloc, b"B")?)?;
     let mut fails = Many::new(alloc);
     fails.push(2)?;
+    let mut links = Many::new(alloc);
+    'pieces: for piece in [b"A", b"B"] {
+        links.push(link_of(alloc, piece)?)?;
+    }
     Ok(MemoryPort::new(alloc, links, fails))
+}
+
+// Whether the two links come in order, with a fault between and nothing behind. They go back the other way round, with a turn and without.
+fn come_and_go_back(port: &mut MemoryPort<MemoryLink>) -> bool {
+    let first = port.accept();
+    let is_fault = matches!(port.accept(), Err(Failed));
+    let second = port.accept();
+    let is_end = matches!(port.accept(), Ok(None));
+    let (Ok(Some(mut first)), Ok(Some(mut second))) = (first, second) else {
+        return false;
+    };
+    let are_in_order = first_of(&mut first) == Some(b'A') && first_of(&mut second) == Some(b'B');
+    port.give_back(second, &[TURN]);
+    port.give_back(first, &[]);
+    is_fault && is_end && are_in_order
+}
+
+// Whether two links came back, the first with the turn.
+fn are_back(back: Option<&[Returned<MemoryLink>]>) -> bool {
+    match back {
+        Some([one, two]) => one.turns.as_slice() == [TURN].as_slice() && two.turns.is_empty(),
+        _ => false,
+    }
 }
 
 #[test]
 fn links_come_in_order_and_go_back(rt: HostRuntime) -> Result<(), Fail> {
-    let alloc = rt.alloc();
-    let mut port = port_of_two(alloc)?;
-    let Ok(Some(mut first)) = port.accept() else {
-        return Err("no first link".into());
-    };
-    assert_eq!(rt; first_of(&mut first), Some(b'A'));
-    assert!(rt; matches!(port.accept(), Err(Failed)));
-    let Ok(Some(mut second)) = port.accept() else {
-        return Err("no second link".into());
-    };
-    assert_eq!(rt; first_of(&mut second), Some(b'B'));
-    assert!(rt; matches!(port.accept(), Ok(None)));
-    port.give_back(second, &[TURN]);
-    port.give_back(first, &[]);
-    let Some([one, two]) = port.back() else {
-        return Err("not two links came back".into());
-    };
-    assert_eq!(rt; (one.turns.as_slice(), two.turns.len()), (&[TURN][..], 0));
+    let mut port = port_of_two(rt.alloc())?;
+    assert!(rt; come_and_go_back(&mut port));
+    assert!(rt; are_back(port.back()));
     Ok(())
 }
 

@@ -1,4 +1,4 @@
-use Rattle.std.proofs.Common.{◌≡◌, ℕ, length, rules}
+use Rattle.std.proofs.Common.{◌≡◌, length, rules}
 use Rattle.std.specs.Vec.Iter.{into_iter_items}
 use Rattle.centre_serve.proofs.Seating.{rest_over, none_over}
 use Rattle.centre_serve.specs.Rows.{was_stopped}

@@ -1,5 +1,4 @@
 use Rattle.std.proofs.Common.{◌≡◌, ◌≤◌, false, ℕ, [], ◌∷◌, ◌++◌, length, sym, subst, refl, rules}
-use Rattle.std.specs.Vec.{vec_capacity}
 use Rattle.std.specs.List.{AllByRecursion}
 use Rattle.std.specs.Vec.Iter.{into_iter_items}
 use Rattle.snapshot_hall.specs.Starts.{IsNew}

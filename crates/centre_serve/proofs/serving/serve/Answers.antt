@@ -1,8 +1,5 @@
-use Rattle.std.proofs.Common.{◌≡◌, ◌∙◌, ◌≤◌, List, length, map, refl, sym, ap, subst, Result, Ok, Err}
-use Rattle.archive_entry.specs.declared.entry.Entry.{Entry}
-use Rattle.archive_log.specs.Histories.{IsHistoryOf}
+use Rattle.std.proofs.Common.{◌≡◌, ◌∙◌, map, sym, ap, subst, Result, Err}
 use Rattle.archive_log.specs.declared.fault.StartFault.TheVariants.{DiskFault}
-use Rattle.disk_model.specs.View.{WhereTold, file_of}
 use Rattle.desk_words.specs.Setting.{setting}
 use Rattle.centre_serve.proofs.Opening.{opened_row, refused_row, refailed}
 use Rattle.centre_serve.proofs.Whole.{map_map}
@@ -50,12 +47,9 @@ returns g c =
     let view = g.D.Disk.view in
     let started = c.in-Ok.started in
     let opening = c.in-Ok.ensures in
-    let same = c.as_slice.ensures in
-    let history = subst (λ (l : List Entry). WhereTold (view c.args.disk) (IsHistoryOf (file_of (view c.args.disk)) l)) (sym same) opening.history in
-    let some = subst (λ (l : List Entry). 1 ≤ length l) (sym same) opening.started.some in
     record {
       row =
           opened_row (setting c.args.secret.now c.args.limits.now) (view c.args.disk) (view started.0.disk) (map (λ worker. g.P.Port.view worker.port) c.args.workers.items)
-          (site (view c.serve_named.result.disk) (map g.P.Port.view c.serve_named.result.ports.items)) c.as_slice.result.now started.0.faults _ opening.disk opening.since history some
+          (site (view c.serve_named.result.disk) (map g.P.Port.view c.serve_named.result.ports.items)) started.1 started.0.faults _ opening.disk opening.since opening.history opening.started.some
           c.serve_named.result.ending c.serve_named.ensures.row (λ short. ap view (c.serve_named.ensures.starved short));
     }

@@ -3,7 +3,7 @@ use Rattle.centre_serve.proofs.serving.serve.Given as goal
 
 -- what is known of the disk once its archive is opened, and the book that is named
 abbrev pub ghosts-serve_named-J-Naming : goal.ghosts-serve_named-J-Naming
-ghosts-serve_named-J-Naming g a = record { book = a.opened; opening = a.entries.now; told = is_told (g.D.Disk.view a.archive.disk); faults = a.archive.faults }
+ghosts-serve_named-J-Naming g a = record { book = a.opened; opening = a.entries; told = is_told (g.D.Disk.view a.archive.disk); faults = a.archive.faults }
 
 -- the blank ledgers
 abbrev pub ghosts-serve_named-L-Ledger : goal.ghosts-serve_named-L-Ledger

@@ -1,4 +1,4 @@
-use Rattle.std.proofs.Common.{◌≡◌, ◌∙◌, ◌≤◌, ℕ, List, length, map, refl, sym, ap, subst, Result, Err}
+use Rattle.std.proofs.Common.{◌∙◌, ◌≤◌, ℕ, length, map, refl, sym, ap, subst, Result}
 use Rattle.std.specs.Vec.{vec_capacity}
 use Rattle.std.proofs.Math.Nat.{min-le_left}
 use Rattle.desk_words.specs.Setting.{setting}
@@ -10,7 +10,6 @@ use Rattle.centre_serve.proofs.Whole.{map_map, zip_each}
 use Rattle.centre_serve.specs.Rows.{job_scene, WorkerRow}
 use Rattle.centre_serve.specs.Service.{site, StartedRow}
 use Rattle.centre_serve.specs.declared.ending.ServeStop.{ServeStop}
-use Rattle.centre_serve.specs.declared.ending.ServeStop.TheVariants.{OutOfMemory}
 use Rattle.centre_serve.proofs.serving.serve_named.Goals as goal
 
 pub rise_all-course-requires-clause-ports : goal.rise_all-course-requires-clause-ports
@@ -34,7 +33,7 @@ returns-in_default-clause-row g c =
     let view = g.D.Disk.view in
     let short = c.without_memory.ensures in
     let same = ap (map g.P.Port.view) short.ports ∙ map_map g.P.Port.view (λ worker. worker.port) c.args.workers.items in
-    subst (λ (ending : Result (Unit {0}) ServeStop). StartedRow (setting c.args.secret.now c.args.limits.now) (site (view c.args.archive.disk) (map (λ worker. g.P.Port.view worker.port) c.args.workers.items)) (site (view c.without_memory.result.disk) (map g.P.Port.view c.without_memory.result.ports.items)) c.args.entries.now c.args.archive.faults ending)
+    subst (λ (ending : Result (Unit {0}) ServeStop). StartedRow (setting c.args.secret.now c.args.limits.now) (site (view c.args.archive.disk) (map (λ worker. g.P.Port.view worker.port) c.args.workers.items)) (site (view c.without_memory.result.disk) (map g.P.Port.view c.without_memory.result.ports.items)) c.args.entries c.args.archive.faults ending)
     (sym short.ending) same
 
 pub returns-in_default-clause-starved : goal.returns-in_default-clause-starved
@@ -45,7 +44,7 @@ returns-in-Err-clause-row g c =
     let view = g.D.Disk.view in
     let short = c.without_memory-in-Err.ensures in
     let same = ap (map g.P.Port.view) short.ports ∙ map_map g.P.Port.view (λ worker. worker.port) c.args.workers.items in
-    subst (λ (ending : Result (Unit {0}) ServeStop). StartedRow (setting c.args.secret.now c.args.limits.now) (site (view c.args.archive.disk) (map (λ worker. g.P.Port.view worker.port) c.args.workers.items)) (site (view c.without_memory-in-Err.result.disk) (map g.P.Port.view c.without_memory-in-Err.result.ports.items)) c.args.entries.now c.args.archive.faults ending)
+    subst (λ (ending : Result (Unit {0}) ServeStop). StartedRow (setting c.args.secret.now c.args.limits.now) (site (view c.args.archive.disk) (map (λ worker. g.P.Port.view worker.port) c.args.workers.items)) (site (view c.without_memory-in-Err.result.disk) (map g.P.Port.view c.without_memory-in-Err.result.ports.items)) c.args.entries c.args.archive.faults ending)
     (sym short.ending) same
 
 pub returns-in-Err-clause-starved : goal.returns-in-Err-clause-starved
@@ -73,8 +72,8 @@ returns-clause-row g c =
     let row =
     finish scene (λ j. j.failed) (λ j. j.desk.place) (λ p. p.front) (λ p. p.shares) view s g.J.Naming.opening told faults xs ys c.close-2.result was rows fresh closed
     (λ y. refl) (λ y. refl) (λ y. min-le_left _ _) c.requires.told.0 c.close-2.ensures.told halt any befores afters c.rise_all-course.ensures.stopped c.rise_all-course.ensures.failed before after in
-    subst (λ (ending : Result (Unit {0}) ServeStop). StartedRow s (site was befores) (site (view c.close-2.result) afters) c.args.entries.now c.args.archive.faults ending) (sym c.ending_of.ensures)
-    (as_opened s (site was befores) (site (view c.close-2.result) afters) g.J.Naming.opening c.args.entries.now faults c.args.archive.faults _ c.requires.opening c.requires.told.1 row)
+    subst (λ (ending : Result (Unit {0}) ServeStop). StartedRow s (site was befores) (site (view c.close-2.result) afters) c.args.entries c.args.archive.faults ending) (sym c.ending_of.ensures)
+    (as_opened s (site was befores) (site (view c.close-2.result) afters) g.J.Naming.opening c.args.entries faults c.args.archive.faults _ c.requires.opening c.requires.told.1 row)
 
 pub returns-clause-starved : goal.returns-clause-starved
 returns-clause-starved g c = λ short. absurd (not_short c.rise_all-course.result.stopped c.rise_all-course.result.failed (sym c.ending_of.ensures ∙ short))

@@ -81,3 +81,26 @@ items-smaller g c =
     let row = c.in-Ok-serve_request.ensures.row c.in-Ok-read_request.ensures.request.head in
     let longer : length c.serve_request.new.trail ≡ length c.items.trail + 1 = ap length row.turns ∙ length-append c.items.trail (row.turn ∷ []) in
     omega (arith, c.items.invariant.1, longer)
+
+pub items-preserved-else-request : goal.items-preserved-else-request
+items-preserved-else-request g c =
+    let s = setting c.args.secret.now c.args.limits.now in
+    let x = scene (g.K.Desk.stand c.args.desk.now) (g.L.Stream.view c.args.link.now) (g.C.Clock.given c.args.clock.now) in
+    let y = scene (g.K.Desk.stand c.items.desk) (g.L.Stream.view c.items.link) (g.C.Clock.given c.items.clock) in
+    let z = scene (g.K.Desk.stand c.serve_request.new.desk) (g.L.Stream.view c.serve_request.new.link) (g.C.Clock.given c.serve_request.new.clock) in
+    let gives = c.in-Ok-read_request.ensures.request in
+    let same = c.closing_if-request.ensures.same in
+    let says = says_by (length c.items.trail) gives.head c.in-Ok-read_request.request c.closing_if-request.result _ gives.tells same.0 same.1 same.2 c.closing_if-request.ensures.close (ap (λ (n : ℕ). n + 1 == 1000) c.len-in-items.ensures) in
+    let row = c.in-Ok-serve_request.ensures.row gives.head in
+    let few = few_more (closes gives.head) (length c.items.trail) (sym says.close_is ∙ c.if-request.false) c.items.invariant.1 in
+    let longer : length c.serve_request.new.trail ≡ length c.items.trail + 1 = ap length row.turns ∙ length-append c.items.trail (row.turn ∷ []) in (
+      going x y s c.items.trail c.items.inbox c.items.invariant.0 (g.L.Stream.view c.read_request.new.link) c.read_request.new.inbox c.in-Ok-read_request.request gives c.read_request.ensures.later
+          c.closing_if-request.result says same.3 z c.serve_request.new.trail (Ok c.in-Ok-serve_request.field-0) row c.if-request.false row.puts.ok,
+      omega (arith, few, longer),
+    )
+
+pub items-smaller-else-request : goal.items-smaller-else-request
+items-smaller-else-request g c =
+    let row = c.in-Ok-serve_request.ensures.row c.in-Ok-read_request.ensures.request.head in
+    let longer : length c.serve_request.new.trail ≡ length c.items.trail + 1 = ap length row.turns ∙ length-append c.items.trail (row.turn ∷ []) in
+    omega (arith, c.items.invariant.1, longer)

@@ -7,6 +7,7 @@ returns-clause-served g c = record {
   last = _;
   over = c.serve_over-end.ensures.row;
   images = c.close.ensures.left;
+  keeps = c.close.ensures.history;
   tells = ap (λ d. is_told (g.D.Disk.view d)) c.close.ensures.disk;
   cause = c.close.ensures.calm;
   stopped_is = search (arith, rules, tests, c.stops-stopped.ensures);

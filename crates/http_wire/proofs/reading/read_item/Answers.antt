@@ -68,3 +68,12 @@ returns-in_default-request_of-clause-stops g c =
     let P : List ℕ → Type 0 = λ x. FrontSays c.args.most (take front.size x) front.kind (Ok head) in
     let reads = reads_head c.args.most _ _ _ mid front head c.in-Ok.ensures.front (subst P c.as_slice.ensures c.in-Ok-judged.ensures.ok) in
     inr (head, reads, search rules)
+
+pub returns-then-is_err-clause-stops : goal.returns-then-is_err-clause-stops
+returns-then-is_err-clause-stops g c =
+    let mid = c.read_front.new.held in
+    let front = c.in-Ok.front in
+    let head = head_view c.in-Ok-judged.head in
+    let P : List ℕ → Type 0 = λ x. FrontSays c.args.most (take front.size x) front.kind (Ok head) in
+    let reads = reads_head c.args.most _ _ _ mid front head c.in-Ok.ensures.front (subst P c.as_slice.ensures c.in-Ok-judged.ensures.ok) in
+    inr (head, reads, search rules)

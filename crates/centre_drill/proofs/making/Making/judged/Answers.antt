@@ -1,5 +1,6 @@
-use Rattle.std.proofs.Common.{◌≡◌, ◌∙◌, ap, sym, refl}
+use Rattle.std.proofs.Common.{◌≡◌, ◌∙◌, ℕ, List, ap, sym, refl}
 use Rattle.epochs.specs.Kinds.{Text}
+use Rattle.archive_entry.specs.declared.entry.Entry.{Entry}
 use Rattle.archive_state.specs.Lawful.{full, is_accept}
 use Rattle.archive_state.specs.Verdicts.{command, entry_of, judged_of}
 use Rattle.archive_state.specs.declared.verdict.Verdict.TheVariants.{Accept}
@@ -24,4 +25,5 @@ returns g c = λ author is.
     let rules : ruling h p epoch set ≡ Accept n = sym c.in_ok-verdict.ensures.verdict ∙ c.in-Accept.is in
     let who = c.in_ok-verdict.ensures.author n c.in-Accept.is in
     let name = c.in_ok-verdict.field-0.author in
-    made_entry h p epoch set name n who rules _ refl ∙ ap (λ (a : Text). entry_of h (command a p.seq p.kind p.body) epoch) (one_name _ name author who is)
+    let with_body : List ℕ → Entry = λ b. record { number = n; moment = epoch; author = name; seq = p.seq; kind = p.kind; body = b } in
+    ap with_body c.in_ok-share.ensures ∙ made_entry h p epoch set name n who rules _ refl ∙ ap (λ (a : Text). entry_of h (command a p.seq p.kind p.body) epoch) (one_name _ name author who is)

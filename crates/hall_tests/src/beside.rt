@@ -1,0 +1,214 @@
+//! Two workers in memory: a commit that waits at its gate, with the lock in hand, and a reader that is answered meanwhile.
+ghost use Rattle.std.specs.Prelude.{◌≡◌, IfOk, length};
+
+use centre::{MemorySink, MemorySource, Worker, run};
+use centre_session::FixedClock;
+use disk_model::MemoryDisk;
+use exact_time::{Failed, Many};
+use http_wire::MemoryLink;
+use link_ports::MemoryPort;
+use sample_data::{FOUNDED, NOW, SECRET, bytes};
+use snapshot_hall::Gate;
+use std::alloc::Global;
+use std::sync::Wait;
+use std::sync::atomic::{AtomicBool, Ordering};
+use std::test::Fail;
+use std::thread::Threads;
+use streams::{Link, Sink, Source, Stream};
+
+// The operator adds a network. The response was made with Python's hashlib.
+const REVISE: &[u8] =
+    b"POST /feed/1/revise?seq=1 HTTP/1.1\r\nContent-Length: 23\r\nAuthorization: Digest username=\"op\", realm=\"FDSN\", nonce=\"0000000065e11a80c4b9ad505cad33331a9629a94b60ee48\", uri=\"/feed/1/revise?seq=1\", response=\"4dac88c1b78e084c45391b644a0cdfc2\"\r\n\r\nNET|IU|GSN|1988-01-01|\n";
+
+const REVISED: &[u8] =
+    b"HTTP/1.1 200 OK\r\nContent-Type: text/plain\r\nContent-Length: 11\r\nX-Archive-Front: 2\r\n\r\naccepted 2\n";
+
+const NETWORKS: &[u8] = b"GET /fdsnws/station/1/query?level=network HTTP/1.1\r\n\r\n";
+
+const NO_NETWORK: &[u8] = b"HTTP/1.1 204 No Content\r\nX-Archive-Front: 1\r\n\r\n";
+
+fn clock() -> Result<FixedClock, Fail> {
+    if !NOW.is_clock_moment() {
+        return Err("no moment".into());
+    }
+    Ok(FixedClock::new(NOW))
+}
+
+// The words, each a string of its own.
+fn owned_words(alloc: Global, words: &[&str]) -> Result<Vec<String>, Fail> {
+    let mut owned = Vec::new(alloc);
+    for word in words {
+        owned.push(String::from_str(alloc, word)?)?;
+    }
+    Ok(owned)
+}
+
+// Set by one worker, and awaited by another; and how each wait ended.
+#[derive(Drop)]
+struct Signals {
+    at_gate: AtomicBool,
+    replying: AtomicBool,
+    gate_waited: AtomicBool,
+    link_waited: AtomicBool,
+}
+
+// Whether it came within a few seconds.
+fn await_signal(signal: &AtomicBool) -> bool {
+    'waits: for _ in 0..1_000_000_000u32 {
+        if signal.load(Ordering::SeqCst) {
+            return true;
+        }
+        std::hint::spin_loop();
+    }
+    false
+}
+
+// The gate of the first worker waits until the reply of the second is being written.
+#[derive(Drop)]
+struct SlowGate<'a> {
+    signals: &'a Signals,
+}
+
+impl<'a> Gate for SlowGate<'a> {
+    ghost passed = { λ before after. Unit {0} };
+
+    fn pass<W: Wait>(&mut self, _rt: &W) {
+        self.signals.at_gate.store(true, Ordering::SeqCst);
+        let came = await_signal(&self.signals.replying);
+        self.signals.gate_waited.store(came, Ordering::SeqCst);
+    }
+}
+
+// A reader gives what it has only once the first worker is at its gate, and tells when it is written to.
+#[derive(Drop)]
+struct SignalLink<'a> {
+    link: MemoryLink,
+    is_reader: bool,
+    signals: &'a Signals,
+}
+
+impl<'a> Stream for SignalLink<'a> {
+    ghost view = { λ s. ⟦<MemoryLink as Stream>⟧.view s.link };
+
+    fn faults(&self) -> u64 {
+        self.link.faults()
+    }
+}
+
+impl<'a> Source for SignalLink<'a> {
+    fn take(&mut self, into: &mut [u8]) -> Result<usize, Failed> {
+        if self.is_reader {
+            let came = await_signal(&self.signals.at_gate);
+            self.signals.link_waited.store(came, Ordering::SeqCst);
+        }
+        self.link.take(into)
+    }
+}
+
+impl<'a> Sink for SignalLink<'a> {
+    fn put(&mut self, piece: &[u8]) -> Result<usize, Failed> {
+        if self.is_reader {
+            self.signals.replying.store(true, Ordering::SeqCst);
+        }
+        self.link.put(piece)
+    }
+}
+
+impl<'a> Link for SignalLink<'a> {}
+
+type SlowWorker<'a> = Worker<MemoryPort<SignalLink<'a>>, FixedClock, SlowGate<'a>>;
+
+fn link_of<'a>(
+    alloc: Global,
+    signals: &'a Signals,
+    is_reader: bool,
+) -> Result<SignalLink<'a>, Fail> {
+    let input = bytes(alloc, if is_reader { NETWORKS } else { REVISE })?;
+    let mut pieces = Many::new(alloc);
+    pieces.push(input)?;
+    Ok(SignalLink {
+        link: MemoryLink::new(alloc, pieces, Many::new(alloc)),
+        is_reader,
+        signals,
+    })
+}
+
+fn worker_of<'a>(
+    alloc: Global,
+    signals: &'a Signals,
+    is_reader: bool,
+) -> Result<SlowWorker<'a>, Fail> {
+    let mut links = Many::new(alloc);
+    links.push(link_of(alloc, signals, is_reader)?)?;
+    Ok(Worker {
+        port: MemoryPort::new(alloc, links, Many::new(alloc)),
+        clock: clock()?,
+        gate: SlowGate { signals },
+    })
+}
+
+fn workers_of<'a>(alloc: Global, signals: &'a Signals) -> Result<Vec<SlowWorker<'a>>, Fail>
+    ensures { IfOk result (λ workers. length workers.items ≡ 2) }
+{
+    let mut workers = Vec::new(alloc);
+    workers.push(worker_of(alloc, signals, false)?)?;
+    workers.push(worker_of(alloc, signals, true)?)?;
+    Ok(workers)
+}
+
+// Whether the one link of a port came back with this written.
+fn is_told(port: &MemoryPort<SignalLink<'_>>, wanted: &[u8]) -> bool {
+    match port.back() {
+        Some([returned]) => returned.link.link.told() == Some(wanted),
+        _ => false,
+    }
+}
+
+// Serves the two, and says whether it ended in order, with both replies.
+fn serve_both<R: Threads + Wait + Sync>(
+    rt: &R,
+    alloc: Global,
+    signals: &Signals,
+) -> Result<bool, Fail> {
+    let words = owned_words(
+        alloc,
+        &["serve", "--journal=a", "--listen=b:1", "--workers=2"],
+    )?;
+    let mut source = MemorySource::new(Many::new(alloc), Many::new(alloc));
+    let mut sink = MemorySink::new(alloc, Many::new(alloc));
+    let mut errors = MemorySink::new(alloc, Many::new(alloc));
+    let disk = MemoryDisk::new(alloc, bytes(alloc, FOUNDED)?, Many::new(alloc))?;
+    let workers = workers_of(alloc, signals)?;
+    let mut clock = clock()?;
+    let ended = run(
+        rt,
+        alloc,
+        &words,
+        SECRET,
+        &mut source,
+        &mut sink,
+        &mut errors,
+        disk,
+        &mut clock,
+        workers,
+    );
+    Ok(match ended.ports.as_slice() {
+        [one, two] => ended.status == 0 && is_told(one, REVISED) && is_told(two, NO_NETWORK),
+        _ => false,
+    })
+}
+
+#[test]
+fn answers_while_a_commit_waits(rt: HostRuntime) -> Result<(), Fail> {
+    let signals = Signals {
+        at_gate: AtomicBool::new(false),
+        replying: AtomicBool::new(false),
+        gate_waited: AtomicBool::new(false),
+        link_waited: AtomicBool::new(false),
+    };
+    assert!(&rt; serve_both(&rt, rt.alloc(), &signals)?);
+    // Neither wait ended by its limit.
+    assert!(&rt; signals.gate_waited.load(Ordering::SeqCst));
+    assert!(&rt; signals.link_waited.load(Ordering::SeqCst));
+    Ok(())
+}

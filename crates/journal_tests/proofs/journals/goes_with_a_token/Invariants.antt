@@ -1,4 +1,0 @@
-use Rattle.journal_tests.proofs.journals.goes_with_a_token.Given as goal
-
-abbrev pub ghosts-count_elsewhere : goal.ghosts-count_elsewhere
-ghosts-count_elsewhere g a = record { name = a.blank.name; parts = a.blank.parts }
