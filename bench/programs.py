@@ -20,11 +20,15 @@ def below(names):
 
 
 def built(scratch, name, source, crates, words, proofs=()):
-    """The program of that source over these crates, with these files of proofs by their paths, proved and built; it
-    is run once, with these words."""
+    """The program of that source over these crates, with these files of proofs by their paths, proved and built by
+    build/builder.py, which finds there what is proved here; it is run once, with these words."""
     stands_on = below(crates)
     for crate, _ in stands_on:
-        shutil.copytree(os.path.join(TOP, "crates", crate), os.path.join(scratch, "crates", crate))
+        here, there = os.path.join(TOP, "crates", crate), os.path.join(scratch, "crates", crate)
+        shutil.copytree(here, there, ignore=shutil.ignore_patterns("out"))
+        kept = os.path.join("crates", "velkatsa", "out", "rlib", crate)
+        if os.path.isdir(os.path.join(TOP, kept)):
+            shutil.copytree(os.path.join(TOP, kept), os.path.join(scratch, kept))
     folder = os.path.join(scratch, "crates", name)
     os.makedirs(os.path.join(folder, "src"))
     shutil.copy(os.path.join(HERE, source), os.path.join(folder, "src", "main.rt"))
@@ -32,11 +36,13 @@ def built(scratch, name, source, crates, words, proofs=()):
         os.makedirs(os.path.dirname(os.path.join(folder, "proofs", path)), exist_ok=True)
         with open(os.path.join(folder, "proofs", path), "w", encoding="utf-8") as wanted:
             wanted.write(proofs[path])
-    shutil.copy(os.path.join(TOP, "HANDLES"), scratch)
     with open(os.path.join(scratch, "crates.txt"), "w", encoding="utf-8") as wanted:
         wanted.writelines([line for _, line in stands_on] + [f"{name}: {' '.join(crates)}\n"])
-    made = subprocess.run(["rt", "run", "--", *words], cwd=folder, stdout=subprocess.PIPE, stderr=subprocess.STDOUT)
+    os.makedirs(os.path.join(scratch, "crates", "velkatsa"), exist_ok=True)
+    os.mkdir(os.path.join(scratch, "build"))
+    builder = shutil.copy(os.path.join(TOP, "build", "builder.py"), os.path.join(scratch, "build"))
+    if subprocess.call([builder, name], stdin=subprocess.DEVNULL):
+        sys.exit(1)
     program = os.path.join(folder, "out", name)
-    if not os.path.exists(program):
-        sys.exit(made.stdout.decode())
+    subprocess.run([program, *words], cwd=folder, stdin=subprocess.DEVNULL, stdout=subprocess.DEVNULL)
     return program

@@ -7,15 +7,17 @@ use Rattle.centre.specs.declared.ending.Refusal.TheVariants.{UnknownCommand, Val
 use Rattle.centre.specs.declared.ending.Stop.{Stop}
 use Rattle.centre.specs.declared.ending.Stop.TheVariants.{Refused, ReadFault, WriteFault, DiskFault, PortFault, OutOfMemory}
 use Rattle.command_words.specs.Commands.{SelectWords, InitWords, TalkWords, DrillWords, Command, select, init, talk, serve, drill, show}
-use Rattle.centre.specs.Given.{Streams, World, Given}
+use Rattle.centre_select.specs.Had.{Had}
+use Rattle.centre_select.specs.Table.{Streams}
+use Rattle.centre.specs.Given.{World, Given}
 use Rattle.centre.specs.Shown.{text_shown}
 use Rattle.centre.specs.Settled.{IsCutShort, HasWritten, HoldsNewArchive, KeepsFile, KeepsUnused}
 use Rattle.centre.specs.Status.{status_of_refusal, status_of_run}
 use Rattle.streams.specs.Effects.{Grew}
-use Rattle.centre.specs.Table.{UnknownRow, ShowRow, SelectRow, InitRow, IsEnding}
-use Rattle.centre.specs.Had.{Had}
+use Rattle.centre.specs.Selects.{SelectEnding}
+use Rattle.centre.specs.Table.{UnknownRow, ShowRow, InitRow, IsEnding}
 use Rattle.centre.proofs.DrillRows.{drill_clock, drill_ports, drill_kept, drill_held, none_drilled}
-use Rattle.centre.proofs.Rows.{same_sink}
+use Rattle.centre.proofs.SelectRows.{select_kept}
 use Rattle.centre.proofs.ServeRows.{serve_disk, serve_port, serve_kept, serve_clock, none_served}
 use Rattle.centre_serve.specs.Whole.{OneRose}
 use Rattle.centre_drill.specs.Drill.{HoldsHistory}
@@ -191,12 +193,7 @@ kept_row view secret (Some (show text)) before after (Err ReadFault) row done_no
 kept_row view secret (Some (show text)) before after (Err DiskFault) row done_not cut_not = absurd row.0
 kept_row view secret (Some (show text)) before after (Err PortFault) row done_not cut_not = absurd row.0
 kept_row view secret (Some (show text)) before after (Err OutOfMemory) row done_not cut_not = absurd row.0
-kept_row view secret (Some (select w)) before after (Err (Refused refusal)) (inl row, same) done_not cut_not = same_sink before.streams after.streams row.same
-kept_row view secret (Some (select w)) before after (Err (Refused refusal)) (inr row, same) done_not cut_not = row.kept
-kept_row view secret (Some (select w)) before after (Err ReadFault) row done_not cut_not = row.0.kept
-kept_row view secret (Some (select w)) before after (Err DiskFault) row done_not cut_not = absurd row.0
-kept_row view secret (Some (select w)) before after (Err PortFault) row done_not cut_not = absurd row.0
-kept_row view secret (Some (select w)) before after (Err OutOfMemory) row done_not cut_not = row.0
+kept_row view secret (Some (select w)) before after (Err stop) row done_not cut_not = select_kept w before.streams after.streams stop row.0 cut_not
 kept_row view secret (Some (init w)) before after (Err stop) row done_not cut_not = init_kept view w before after stop row
 kept_row view secret (Some (talk w)) before after (Err stop) row done_not cut_not = tt
 kept_row view secret (Some (serve w)) before after (Err stop) row done_not cut_not = serve_kept view secret w before after (Err stop) row
@@ -341,15 +338,12 @@ nine_row view secret None before after (Refused NotAJournal) row e told = absurd
 nine_row view secret None before after (Refused (Damaged at)) row e told = absurd row
 nine_row view secret (Some (show text)) before after (Refused NotAJournal) row e told = absurd row.0
 nine_row view secret (Some (show text)) before after (Refused (Damaged at)) row e told = absurd row.0
-nine_row view secret (Some (select w)) before after (Refused NotAJournal) (inl row, same) e told = absurd row.why
-nine_row view secret (Some (select w)) before after (Refused NotAJournal) (inr row, same) e told = absurd row.why
-nine_row view secret (Some (select w)) before after (Refused (Damaged at)) (inl row, same) e told = absurd row.why
-nine_row view secret (Some (select w)) before after (Refused (Damaged at)) (inr row, same) e told = absurd row.why
+nine_row view secret (Some (select w)) before after (Refused NotAJournal) row e told = absurd row.0
+nine_row view secret (Some (select w)) before after (Refused (Damaged at)) row e told = absurd row.0
 nine_row view secret command before after (Refused RequestCut) row e told = absurd (omega (arith, e))
 nine_row view secret None before after (Refused NotEmpty) row e told = absurd row
 nine_row view secret (Some (show text)) before after (Refused NotEmpty) row e told = absurd row.0
-nine_row view secret (Some (select w)) before after (Refused NotEmpty) (inl row, same) e told = absurd row.why
-nine_row view secret (Some (select w)) before after (Refused NotEmpty) (inr row, same) e told = absurd row.why
+nine_row view secret (Some (select w)) before after (Refused NotEmpty) row e told = absurd row.0
 nine_row view secret command before after (Refused UnknownCommand) row e told = absurd (omega (arith, e))
 nine_row view secret command before after (Refused (Value word)) row e told = absurd (omega (arith, e))
 nine_row view secret command before after (Refused Order) row e told = absurd (omega (arith, e))
@@ -388,19 +382,18 @@ none_shown text before after (Err DiskFault) row e = row
 none_shown text before after (Err PortFault) row e = row
 none_shown text before after (Err OutOfMemory) row e = row
 
-none_selected : (w : SelectWords) (before after : Streams) (ending : Result (Unit {0}) Stop) → SelectRow w before after ending → status_of_run ending ≡ 1 → ⊥
+none_selected : (w : SelectWords) (before after : Streams) (ending : Result (Unit {0}) Stop) → SelectEnding w before after ending → status_of_run ending ≡ 1 → ⊥
 none_selected w before after (Ok done) row e = omega (arith, e)
-none_selected w before after (Err (Refused UnknownCommand)) (inl row) e = row.why
-none_selected w before after (Err (Refused UnknownCommand)) (inr row) e = row.why
+none_selected w before after (Err (Refused UnknownCommand)) row e = row
 none_selected w before after (Err (Refused (Value word))) row e = omega (arith, e)
 none_selected w before after (Err (Refused Order)) row e = omega (arith, e)
 none_selected w before after (Err (Refused (Record at fault))) row e = omega (arith, e)
 none_selected w before after (Err (Refused NoData)) row e = omega (arith, e)
 none_selected w before after (Err (Refused (TooLarge bytes limit))) row e = omega (arith, e)
-none_selected w before after (Err (Refused NotEmpty)) row e = omega (arith, e)
-none_selected w before after (Err (Refused NotAJournal)) row e = omega (arith, e)
-none_selected w before after (Err (Refused (Damaged at))) row e = omega (arith, e)
-none_selected w before after (Err (Refused RequestCut)) row e = omega (arith, e)
+none_selected w before after (Err (Refused NotEmpty)) row e = row
+none_selected w before after (Err (Refused NotAJournal)) row e = row
+none_selected w before after (Err (Refused (Damaged at))) row e = row
+none_selected w before after (Err (Refused RequestCut)) row e = row
 none_selected w before after (Err (Refused InputTooLong)) row e = omega (arith, e)
 none_selected w before after (Err ReadFault) row e = omega (arith, e)
 none_selected w before after (Err WriteFault) row e = omega (arith, e)

@@ -16,23 +16,27 @@ use Rattle.dataselect.specs.declared.query.DataQuery.{DataQuery}
 use Rattle.dataselect.specs.declared.query.Selection.{Selection}
 use Rattle.dataselect.specs.Query.{is_selected, is_asked}
 use Rattle.dataselect.specs.Segments.{segment_length}
-use Rattle.centre.specs.Answers.{IsBodyOf, RefusesInput, IsAnswer}
+use Rattle.centre_select.specs.Answers.{IsBodyOf, RefusesInput}
+use Rattle.centre_select.specs.Status.{Tells}
+use Rattle.centre_select.specs.Table.{Streams, IsSelected}
+use Rattle.centre_select.specs.declared.ending.SelectRefusal.TheVariants as select_refusal
+use Rattle.centre.specs.Answers.{IsAnswer}
 use Rattle.command_words.specs.Commands.{SelectWords, InitWords, select, init, show}
 use Rattle.http_digest.specs.declared.secret.Secret.{Secret}
-use Rattle.centre.specs.Given.{Streams, World, Given}
+use Rattle.centre.specs.Given.{World, Given}
 use Rattle.centre.specs.Settled.{EndsAs, IsSettled, ComesWhere, HasWritten}
 use Rattle.centre.specs.Status.{status_of, error_text_of}
 use Rattle.streams.specs.View.{StreamView}
-use Rattle.centre.specs.Table.{Tells, IsSelected, IsRun}
+use Rattle.centre.specs.Table.{IsRun}
 use Rattle.disk_model.specs.View.{DiskView}
 use Rattle.disk_model.specs.Untold.{untold_view}
-use Rattle.centre.specs.Had.{Had}
-use Rattle.centre.specs.Words.{AreSelectOptions, IsSelectQuery, RefusesSelectWords, time_words, option_words}
-use Rattle.centre.proofs.OneQuery.{all_read}
+use Rattle.centre_select.specs.Had.{Had}
+use Rattle.centre_select.specs.Words.{AreSelectOptions, IsSelectQuery, RefusesSelectWords, time_words, option_words}
+use Rattle.centre_select.proofs.OneQuery.{all_read}
 use Rattle.command_words.specs.declared.name.Shown.TheVariants.{Version}
-use Rattle.centre.specs.declared.ending.Word.TheVariants.{Network as NetworkWord, Station as StationWord, Location as LocationWord, Channel as ChannelWord}
+use Rattle.centre_select.specs.declared.ending.Word.TheVariants.{Network as NetworkWord, Station as StationWord, Location as LocationWord, Channel as ChannelWord}
 use Rattle.centre.specs.declared.ending.Refusal.{Refusal}
-use Rattle.centre.specs.declared.ending.Refusal.TheVariants.{UnknownCommand, Value, Order, Record, NotEmpty}
+use Rattle.centre.specs.declared.ending.Refusal.TheVariants.{UnknownCommand, Order, NotEmpty}
 use Rattle.centre.specs.declared.ending.Stop.TheVariants.{Refused, ReadFault}
 
 out_of_order : status_of (Refused Order) ≡ 2
@@ -178,7 +182,7 @@ asked_all = record {
 }
 
 -- the first word that can't be read, and times in the wrong order
-bad_station : RefusesSelectWords (record six_words { station = codes "A-N" }) (Value StationWord)
+bad_station : RefusesSelectWords (record six_words { station = codes "A-N" }) (select_refusal.Value StationWord)
 bad_station = record {
   before = NetworkWord ∷ [];
   after = LocationWord ∷ ChannelWord ∷ time_words ++ option_words;
@@ -189,7 +193,7 @@ bad_station = record {
       (omega arith, record { before = []; here = codes "A-N"; after = []; split = refl; values = []; clean = refl; refused = refl });
 }
 
-backwards : RefusesSelectWords (record six_words { start = codes "2025-01-01" }) Order
+backwards : RefusesSelectWords (record six_words { start = codes "2025-01-01" }) select_refusal.Order
 backwards = record {
   all = all_read (record six_words { start = codes "2025-01-01" }) broadband new_year_2025 day None 0 false
       (record {
@@ -209,7 +213,7 @@ body : IsBodyOf all_year 67_108_864 anmo_image anmo_image
 unfolding is_selected is_asked segment_length
 body = record { within = omega arith; rows = anmo_row ∷ []; records = row; some = some_left (0 ∷ []) refl; body_is = refl; fits = omega arith }
 
-refused : RefusesInput all_year 67_108_864 (anmo_image ++ codes "000002") (Record 512 Short)
+refused : RefusesInput all_year 67_108_864 (anmo_image ++ codes "000002") (select_refusal.Record 512 Short)
 refused = record { within = omega arith; first = second }
 
 abbrev anmo_given : Given

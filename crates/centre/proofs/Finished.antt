@@ -5,14 +5,17 @@ use Rattle.centre.specs.declared.ending.Refusal.{Refusal}
 use Rattle.centre.specs.declared.ending.Refusal.TheVariants.{UnknownCommand, Value, Order, Record, NoData, TooLarge, InputTooLong, NotEmpty, NotAJournal, Damaged, RequestCut}
 use Rattle.centre.specs.declared.ending.Stop.{Stop}
 use Rattle.centre.specs.declared.ending.Stop.TheVariants.{Refused, ReadFault, WriteFault, DiskFault, PortFault, OutOfMemory}
-use Rattle.centre.specs.Answers.{IsAnswer, IsSelectAnswer, RefusesInput}
+use Rattle.centre_select.specs.declared.ending.SelectRefusal.TheVariants as select_refusal
+use Rattle.centre_select.specs.Table.{Streams}
+use Rattle.centre_select.proofs.Rows.{selected_answer, refused_answer}
+use Rattle.centre.specs.Answers.{IsAnswer}
 use Rattle.command_words.specs.Commands.{SelectWords, InitWords, TalkWords, ServeWords, DrillWords, Command, select, init, talk, serve, drill, show}
-use Rattle.centre.specs.Given.{Streams, World, Given, AreGiven}
+use Rattle.centre.specs.Given.{World, Given, AreGiven}
 use Rattle.centre.specs.Shown.{text_shown}
 use Rattle.centre.specs.Settled.{IsFree, status_of_answer, text_of_answer}
 use Rattle.centre.specs.Status.{status_of_run, text_of_run}
-use Rattle.centre.specs.Table.{UnknownRow, ShowRow, SelectRow, InitRow, IsEnding}
-use Rattle.centre.specs.Had.{Had}
+use Rattle.centre.specs.Selects.{SelectEnding}
+use Rattle.centre.specs.Table.{UnknownRow, ShowRow, InitRow, IsEnding}
 use Rattle.std.specs.Prelude.{IsSome}
 use Rattle.std.specs.Io.KnownBytes.{Consumes}
 use Rattle.std.proofs.lemmas.Bool.{false≢true}
@@ -60,9 +63,6 @@ eight = inr (inr (inr (inl refl)))
 abbrev pub seventy : IsFree 70
 seventy = inr (inr (inr (inr refl)))
 
-had_that : (left : Option (List ℕ)) (input had : List ℕ) → left ≡ Some input → Had left had → input ≡ had
-had_that left input had e h = subst (λ (o : Option (List ℕ)). Had o had) e h
-
 unknown_ended : {D : Type 0} (given : Given) (before after : World D) (ending : Result (Unit {0}) Stop) → UnknownRow before after ending → Ended None given ending
 unknown_ended given before after (Err (Refused UnknownCommand)) row = inr (record { answer = Err UnknownCommand; is = refl; status_is = refl; text_is = refl })
 unknown_ended given before after (Err (Refused (Value word))) row = absurd row
@@ -91,21 +91,31 @@ show_ended command given text before after (Err DiskFault) is row = absurd row
 show_ended command given text before after (Err PortFault) is row = absurd row
 show_ended command given text before after (Err OutOfMemory) is row = absurd row
 
-select_ended : (w : SelectWords) (given : Given) (before after : Streams) (ending : Result (Unit {0}) Stop) → before.source.left ≡ Some given.input → SelectRow w before after ending → Ended (Some (select w)) given ending
+select_ended : (w : SelectWords) (given : Given) (before after : Streams) (ending : Result (Unit {0}) Stop) → before.source.left ≡ Some given.input → SelectEnding w before after ending → Ended (Some (select w)) given ending
 select_ended w given before after (Ok done) e row =
-    let same : row.input ≡ given.input = sym (had_that before.source.left given.input row.input e row.had) in
-    let P : List ℕ → Type 0 = λ xs. IsSelectAnswer w xs (Ok row.body) in
-    inr (record { answer = Ok row.body; is = subst P same row.answer; status_is = refl; text_is = refl })
-select_ended w given before after (Err (Refused refusal)) e (inl row) = inr (record { answer = Err refusal; is = inl row.why; status_is = refl; text_is = refl })
-select_ended w given before after (Err (Refused refusal)) e (inr row) =
-    let same : row.input ≡ given.input = sym (had_that before.source.left given.input row.input e row.had) in
-    let P : List ℕ → Type 0 = λ xs. RefusesInput row.query w.limit xs refusal in
-    inr (record { answer = Err refusal; is = inr (row.query, row.asked, subst P same row.why); status_is = refl; text_is = refl })
+    inr (record { answer = Ok row.body; is = selected_answer w given.input row.body before after e row.input row.had row.answer; status_is = refl; text_is = refl })
+select_ended w given before after (Err (Refused (Value word))) e row =
+    inr (record { answer = Err (Value word); is = refused_answer w given.input before after (select_refusal.Value word) e row; status_is = refl; text_is = refl })
+select_ended w given before after (Err (Refused Order)) e row =
+    inr (record { answer = Err Order; is = refused_answer w given.input before after select_refusal.Order e row; status_is = refl; text_is = refl })
+select_ended w given before after (Err (Refused (Record at fault))) e row =
+    inr (record { answer = Err (Record at fault); is = refused_answer w given.input before after (select_refusal.Record at fault) e row; status_is = refl; text_is = refl })
+select_ended w given before after (Err (Refused NoData)) e row =
+    inr (record { answer = Err NoData; is = refused_answer w given.input before after select_refusal.NoData e row; status_is = refl; text_is = refl })
+select_ended w given before after (Err (Refused (TooLarge bytes limit))) e row =
+    inr (record { answer = Err (TooLarge bytes limit); is = refused_answer w given.input before after (select_refusal.TooLarge bytes limit) e row; status_is = refl; text_is = refl })
+select_ended w given before after (Err (Refused InputTooLong)) e row =
+    inr (record { answer = Err InputTooLong; is = refused_answer w given.input before after select_refusal.InputTooLong e row; status_is = refl; text_is = refl })
 select_ended w given before after (Err ReadFault) e row = inl five
 select_ended w given before after (Err WriteFault) e row = inl six
+select_ended w given before after (Err OutOfMemory) e row = inl seventy
+select_ended w given before after (Err (Refused UnknownCommand)) e row = absurd row
+select_ended w given before after (Err (Refused NotEmpty)) e row = absurd row
+select_ended w given before after (Err (Refused NotAJournal)) e row = absurd row
+select_ended w given before after (Err (Refused (Damaged at))) e row = absurd row
+select_ended w given before after (Err (Refused RequestCut)) e row = absurd row
 select_ended w given before after (Err DiskFault) e row = absurd row
 select_ended w given before after (Err PortFault) e row = absurd row
-select_ended w given before after (Err OutOfMemory) e row = inl seventy
 
 some_bytes : (len : ℕ) (file : List ℕ) → len ≡ length file → 0 < len → file ≢ []
 some_bytes len [] is some e = omega (arith, is, some)

@@ -9,10 +9,10 @@ use Rattle.centre_session.specs.Items.{Ending, closing, over, cut}
 use Rattle.centre.specs.Talks.{IsServed, IsTalkAnswer}
 use Rattle.centre.specs.declared.ending.Refusal.{Refusal}
 use Rattle.centre.specs.declared.ending.Refusal.TheVariants.{UnknownCommand, Value, Order, Record, NoData, TooLarge, InputTooLong, NotEmpty, NotAJournal, Damaged, RequestCut}
-use Rattle.centre.proofs.OneEnding.{one_ending}
+use Rattle.centre_session.proofs.OneList.{one_list}
 
 one_end_of : (file input : List ℕ) (d e : Ending) → IsServed file input d → IsServed file input e → d ≡ e
-one_end_of file input d e p q = one_ending 0 input p.ends.items q.ends.items p.ends.interim q.ends.interim d e p.ends.all q.ends.all
+one_end_of file input d e p q = (one_list 0 input p.ends.items q.ends.items p.ends.interim q.ends.interim d e p.ends.all q.ends.all).2
 
 -- a file that opens has no fault
 not_both : (file input : List ℕ) (ending : Ending) (fault : StartFault) → IsServed file input ending → IsStartFault file fault → ⊥
@@ -85,7 +85,7 @@ one_of file input a b (refuses p) (refuses q) = one_refusal file a b p q
 pub one_talk : (file input : List ℕ) (a b : Result (List ℕ) Refusal) → IsTalkAnswer file input a → IsTalkAnswer file input b → a ≡ b
 one_talk file input a b p q = one_of file input a b (answers file input a p) (answers file input b q)
 
--- and where the file opens or has a fault, and what was read ends, there is one
+-- and where the file opens or has a fault there is one
 pub some_talk : (file input : List ℕ) (ending : Ending) → IsServed file input ending → (answer : Result (List ℕ) Refusal) × IsTalkAnswer file input answer
 some_talk file input closing p = (Ok [], (refl, inl p))
 some_talk file input over p = (Ok [], (refl, inr p))

@@ -12,7 +12,8 @@ use Rattle.centre.specs.Given.{World, Given, AreGiven, Told}
 use Rattle.centre.specs.Settled.{IsFree, ComesWhere, IsComplete, IsCutShort, IsSettled, HasWritten, IsRefused, IsTooLarge, HoldsNewArchive, KeepsFile, KeepsUnused, status_of_answer, text_of_answer}
 use Rattle.centre.specs.Status.{status_of_run, text_of_run}
 use Rattle.streams.specs.View.{StreamView}
-use Rattle.centre.specs.Table.{Tells, IsEnding, IsRun}
+use Rattle.centre_select.specs.Status.{Tells}
+use Rattle.centre.specs.Table.{IsEnding, IsRun}
 use Rattle.centre_drill.specs.Drill.{HoldsHistory}
 use Rattle.centre_drill.specs.History.{made_history}
 use Rattle.centre.proofs.OneAnswer.{one_answer}

@@ -7,7 +7,8 @@ use Rattle.centre_drill.specs.History.{made_history}
 use Rattle.centre_drill.specs.declared.ending.DrillStop.{DrillStop}
 use Rattle.centre_drill.specs.declared.ending.DrillStop.TheVariants as drill
 use Rattle.command_words.specs.Commands.{DrillWords}
-use Rattle.centre.specs.Given.{World, streams}
+use Rattle.centre_select.specs.Table.{streams}
+use Rattle.centre.specs.Given.{World}
 use Rattle.centre.specs.declared.ending.Refusal.{Refusal}
 use Rattle.centre.specs.declared.ending.Refusal.TheVariants.{NotEmpty}
 use Rattle.centre.specs.declared.ending.Stop.{Stop}

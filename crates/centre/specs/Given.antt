@@ -8,15 +8,8 @@ use Rattle.link_ports.specs.Ports.{PortView}
 use Rattle.streams.specs.View.{StreamView}
 use Rattle.centre_talk.specs.Talk.{Place, place}
 use Rattle.command_words.specs.Commands.{Command, select, init, talk, serve, drill}
-use Rattle.centre.specs.Had.{Had}
-
--- what is told of the source and the sink at one moment
-pub record Streams : Type 0 where
-  pub source : StreamView
-  pub sink : StreamView
-
-abbrev pub streams : StreamView → StreamView → Streams
-streams source sink = record { source = source; sink = sink }
+use Rattle.centre_select.specs.Had.{Had}
+use Rattle.centre_select.specs.Table.{Streams, streams}
 
 -- all that a run can reach: the source and the sink, the disk, the moments that the clock gave, and the ports of the workers,
 -- in their order; and the turns that it hands back

@@ -1,15 +1,12 @@
 pub mod Answers
 pub mod Drills
 pub mod Given
-pub mod Had
-pub mod Intake
 pub mod Limits
-pub mod Output
 pub mod Outside
+pub mod Selects
 pub mod Serves
 pub mod Settled
 pub mod Shown
 pub mod Status
 pub mod Table
 pub mod Talks
-pub mod Words

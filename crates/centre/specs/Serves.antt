@@ -10,9 +10,9 @@ use Rattle.disk_model.specs.View.{DiskView}
 use Rattle.centre_serve.specs.Service.{site, ServeRow}
 use Rattle.centre_serve.specs.declared.ending.ServeStop.{ServeStop}
 use Rattle.centre_serve.specs.declared.ending.ServeStop.TheVariants as serve
-use Rattle.command_words.specs.Arguments.{limits_at}
 use Rattle.command_words.specs.Commands.{ServeWords}
 use Rattle.centre.specs.Given.{World}
+use Rattle.centre.specs.Limits.{limits_at}
 use Rattle.centre.specs.declared.ending.Refusal.{Refusal}
 use Rattle.centre.specs.declared.ending.Refusal.TheVariants.{NotAJournal, Damaged}
 use Rattle.centre.specs.declared.ending.Stop.{Stop}

@@ -17,7 +17,8 @@ use Rattle.centre.specs.Given.{World, Given, HadGiven, Told}
 use Rattle.centre.specs.Status.{status_of_refusal, text_of_refusal, status_of_run}
 use Rattle.streams.specs.Effects.{Grew, WritesPart}
 use Rattle.streams.specs.View.{StreamView}
-use Rattle.centre.specs.Table.{Tells, IsStarved}
+use Rattle.centre_select.specs.Status.{Tells}
+use Rattle.centre.specs.Table.{IsStarved}
 use Rattle.centre_serve.specs.Whole.{OneRose}
 use Rattle.link_ports.specs.Ports.{PortView}
 use Rattle.centre.specs.Serves.{ServeEnding}

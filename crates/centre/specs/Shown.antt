@@ -4,7 +4,8 @@ use Rattle.command_words.specs.declared.name.CommandName.{CommandName}
 use Rattle.command_words.specs.declared.name.CommandName.TheVariants.{Select, Init, Talk, Serve, Drill}
 use Rattle.command_words.specs.declared.name.Shown.{Shown}
 use Rattle.command_words.specs.declared.name.Shown.TheVariants.{Help, Version, HelpOf}
-use Rattle.centre.specs.declared.help.TheConstants.{HELP, VERSION, SELECT_HELP, INIT_HELP, TALK_HELP, SERVE_HELP, DRILL_HELP}
+use Rattle.centre_select.specs.declared.help.TheConstants.{SELECT_HELP}
+use Rattle.centre.specs.declared.help.TheConstants.{HELP, VERSION, INIT_HELP, TALK_HELP, SERVE_HELP, DRILL_HELP}
 
 abbrev pub help_of : CommandName → List ℕ
 help_of Select = SELECT_HELP.now

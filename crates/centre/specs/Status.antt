@@ -6,8 +6,7 @@ use Rattle.centre_desk.specs.Faults.{fault_text}
 use Rattle.centre_desk.specs.declared.fault.Fault.{Fault}
 use Rattle.centre_desk.specs.declared.fault.Fault.TheVariants as fault
 use Rattle.query_parameters.specs.declared.fault.QueryFault.TheVariants as query
-use Rattle.centre.specs.declared.ending.Word.{Word}
-use Rattle.centre.specs.declared.ending.Word.TheVariants.{Network, Station, Location, Channel, Start, End, Quality, Minimum, Longest}
+use Rattle.centre_select.specs.Status.{name_of_word}
 use Rattle.centre.specs.declared.ending.Refusal.{Refusal}
 use Rattle.centre.specs.declared.ending.Refusal.TheVariants.{UnknownCommand, Value, Order, Record, NoData, TooLarge, InputTooLong, NotEmpty, NotAJournal, Damaged, RequestCut}
 use Rattle.centre.specs.declared.ending.Stop.{Stop}
@@ -37,18 +36,6 @@ status_of OutOfMemory = 70
 abbrev pub status_of_run : Result (Unit {0}) Stop → ℕ
 status_of_run (Ok done) = 0
 status_of_run (Err stop) = status_of stop
-
--- how a word is named to users
-abbrev pub name_of_word : Word → List ℕ
-name_of_word Network = codes "NET"
-name_of_word Station = codes "STA"
-name_of_word Location = codes "LOC"
-name_of_word Channel = codes "CHA"
-name_of_word Start = codes "START"
-name_of_word End = codes "END"
-name_of_word Quality = codes "QUALITY"
-name_of_word Minimum = codes "MINIMUM"
-name_of_word Longest = codes "LONGEST"
 
 -- what a reply over HTTP tells of a fault, in the words of a command
 abbrev pub text_of_fault : Fault → List ℕ

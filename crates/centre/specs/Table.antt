@@ -1,92 +1,25 @@
 -- The table of endings: when each status comes, and what it leaves.
 use Rattle.std.specs.Prelude.{◌≡◌, ◌⊎◌, ℕ, List, [], Option, Some, None, Result, Ok, Err, IsErrOf}
-use Rattle.std.specs.Io.KnownBytes.{IsAtEnd}
-use Rattle.exact_time.specs.Causes.{Rose}
-use Rattle.dataselect.specs.declared.query.DataQuery.{DataQuery}
-use Rattle.centre.specs.declared.ending.Refusal.{Refusal}
+use Rattle.centre_select.specs.Status.{Tells}
+use Rattle.centre_select.specs.Table.{Streams, IsShown, IsShowStopped}
 use Rattle.centre.specs.declared.ending.Refusal.TheVariants.{UnknownCommand, Record, TooLarge, NotEmpty, Damaged}
 use Rattle.centre.specs.declared.ending.Stop.{Stop}
-use Rattle.centre.specs.declared.ending.Stop.TheVariants.{Refused, ReadFault, WriteFault, DiskFault, PortFault, OutOfMemory}
-use Rattle.centre.specs.Answers.{RefusesInput, IsSelectAnswer}
+use Rattle.centre.specs.declared.ending.Stop.TheVariants.{Refused, WriteFault, DiskFault, OutOfMemory}
 use Rattle.http_digest.specs.declared.secret.Secret.{Secret}
-use Rattle.command_words.specs.Commands.{SelectWords, InitWords, Command, select, init, talk, serve, drill, show}
+use Rattle.command_words.specs.Commands.{InitWords, Command, select, init, talk, serve, drill, show}
 use Rattle.centre.specs.Drills.{DrillEnding}
-use Rattle.centre.specs.Given.{Streams, World}
+use Rattle.centre.specs.Given.{World}
 use Rattle.centre.specs.Shown.{text_shown}
 use Rattle.centre.specs.Status.{status_of_run, text_of_run}
-use Rattle.streams.specs.Effects.{Grew, WritesPart}
 use Rattle.streams.specs.View.{StreamView}
-use Rattle.centre.specs.Had.{Had}
 use Rattle.disk_model.specs.View.{DiskView}
 use Rattle.archive_state.specs.Lawful.{founding_entry}
 use Rattle.archive_log.specs.Founding.{MakesArchive}
 use Rattle.archive_log.specs.declared.fault.FoundFault.{FoundFault}
 use Rattle.archive_log.specs.declared.fault.FoundFault.TheVariants as found
+use Rattle.centre.specs.Selects.{SelectEnding}
 use Rattle.centre.specs.Serves.{ServeEnding}
 use Rattle.centre.specs.Talks.{TalkEnding}
-use Rattle.centre.specs.Words.{IsSelectQuery, RefusesSelectWords}
-
--- Status 0 of `select`: the input was read to its end, and the sink got the body that the words and the
--- input give.
-pub record IsSelected (w : SelectWords) (before after : Streams) : Type 0 where
-  pub input : List ℕ
-  pub body : List ℕ
-  pub had : Had before.source.left input
-  pub answer : IsSelectAnswer w input (Ok body)
-  pub end : IsAtEnd after.source.left
-  pub output : Grew before.sink.written after.sink.written body
-
--- the words are refused: nothing is read, and nothing is written
-pub record IsRefusedByWords (w : SelectWords) (before after : Streams) (refusal : Refusal) : Type 0 where
-  pub why : RefusesSelectWords w refusal
-  pub same : after ≡ before
-
--- the input is refused: nothing is written
-pub record IsRefusedByInput (w : SelectWords) (before after : Streams) (refusal : Refusal) : Type 0 where
-  pub input : List ℕ
-  pub query : DataQuery
-  pub had : Had before.source.left input
-  pub asked : IsSelectQuery w query
-  pub why : RefusesInput query w.limit input refusal
-  pub kept : after.sink ≡ before.sink
-
--- reading stopped at a fault of the source: nothing is written
-pub record IsReadStopped (w : SelectWords) (before after : Streams) : Type 0 where
-  pub query : DataQuery
-  pub asked : IsSelectQuery w query
-  pub rose : Rose before.source.faults after.source.faults
-  pub kept : after.sink ≡ before.sink
-
--- writing stopped at a fault of the sink, after a first part of the body
-pub record IsWriteStopped (w : SelectWords) (before after : Streams) : Type 0 where
-  pub input : List ℕ
-  pub body : List ℕ
-  pub had : Had before.source.left input
-  pub answer : IsSelectAnswer w input (Ok body)
-  pub rose : Rose before.sink.faults after.sink.faults
-  pub output : WritesPart before.sink.written after.sink.written body
-
--- the rows of `select`; want of memory is free, and leaves the sink as it was
-abbrev pub SelectRow : SelectWords → Streams → Streams → Result (Unit {0}) Stop → Type 0
-SelectRow w before after (Ok done) = IsSelected w before after
-SelectRow w before after (Err (Refused refusal)) =
-    IsRefusedByWords w before after refusal ⊎ IsRefusedByInput w before after refusal
-SelectRow w before after (Err ReadFault) = IsReadStopped w before after
-SelectRow w before after (Err WriteFault) = IsWriteStopped w before after
-SelectRow w before after (Err DiskFault) = ⊥
-SelectRow w before after (Err PortFault) = ⊥
-SelectRow w before after (Err OutOfMemory) = after.sink ≡ before.sink
-
--- a text is shown: nothing is read, and the sink got the text
-pub record IsShown (text : List ℕ) (before after : Streams) : Type 0 where
-  pub unread : after.source ≡ before.source
-  pub output : Grew before.sink.written after.sink.written text
-
--- showing stopped at a fault of the sink, after a first part of the text
-pub record IsShowStopped (text : List ℕ) (before after : Streams) : Type 0 where
-  pub unread : after.source ≡ before.source
-  pub rose : Rose before.sink.faults after.sink.faults
-  pub output : WritesPart before.sink.written after.sink.written text
 
 -- the rows of a command that shows a text
 abbrev pub ShowRow : List ℕ → Streams → Streams → Result (Unit {0}) Stop → Type 0
@@ -126,7 +59,7 @@ IsEnding view secret None before after ending = UnknownRow before after ending
 IsEnding view secret (Some (show shown)) before after ending =
     ShowRow (text_shown shown) before.streams after.streams ending × (after ≡ record before { streams = after.streams })
 IsEnding view secret (Some (select w)) before after ending =
-    SelectRow w before.streams after.streams ending × (after ≡ record before { streams = after.streams })
+    SelectEnding w before.streams after.streams ending × (after ≡ record before { streams = after.streams })
 IsEnding view secret (Some (init w)) before after ending = InitRow view w before after ending
 IsEnding view secret (Some (talk w)) before after ending = TalkEnding view secret w before after ending
 IsEnding view secret (Some (serve w)) before after ending = ServeEnding view secret w before after ending
@@ -138,11 +71,6 @@ ToldFor (Refused (Record at fault)) told = (told ≡ Refused (Record at fault)) 
 ToldFor (Refused (TooLarge bytes limit)) told = (told ≡ Refused (TooLarge bytes limit)) ⊎ (told ≡ OutOfMemory)
 ToldFor (Refused (Damaged at)) told = (told ≡ Refused (Damaged at)) ⊎ (told ≡ OutOfMemory)
 ToldFor stop told = told ≡ stop
-
--- the text was written, or a first part of it where the stream failed
-pub record Tells (old new : StreamView) (text : List ℕ) : Type 0 where
-  pub part : WritesPart old.written new.written text
-  pub whole : Grew old.written new.written text ⊎ Rose old.faults new.faults
 
 -- Memory ran out before the words were read: nothing was used. Where there was no room for them, the ports don't come back.
 abbrev pub IsStarved : {D : Type 0} → World D → World D → Result (Unit {0}) Stop → Type 0

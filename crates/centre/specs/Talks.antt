@@ -12,9 +12,9 @@ use Rattle.centre_session.specs.Items.{Item, Ending, closing, over, cut, AreItem
 use Rattle.centre_talk.specs.Talk.{TalkRow}
 use Rattle.centre_talk.specs.declared.ending.TalkStop.{TalkStop}
 use Rattle.centre_talk.specs.declared.ending.TalkStop.TheVariants as talk
-use Rattle.command_words.specs.Arguments.{limits_at}
 use Rattle.command_words.specs.Commands.{TalkWords}
 use Rattle.centre.specs.Given.{World, place_at}
+use Rattle.centre.specs.Limits.{limits_at}
 use Rattle.centre.specs.declared.ending.Refusal.{Refusal}
 use Rattle.centre.specs.declared.ending.Refusal.TheVariants.{RequestCut, NotAJournal, Damaged}
 use Rattle.centre.specs.declared.ending.Stop.{Stop}

@@ -1,20 +1,7 @@
 //! How a run ends.
+use centre_select::Word;
 use exact_time::OutOfMemory;
 use mseed_header::RecordFault;
-
-/// A word of `select` that has a value.
-#[derive(Clone, Copy, Debug, PartialEq, Eq)]
-pub enum Word {
-    Network,
-    Station,
-    Location,
-    Channel,
-    Start,
-    End,
-    Quality,
-    Minimum,
-    Longest,
-}
 
 /// Why the words and what they make the program read give no answer: these determine it.
 #[derive(Clone, Copy, Debug, PartialEq, Eq)]

@@ -16,28 +16,22 @@
 //! over std's readers and writers.
 #![tactic(auto)]
 
-mod adapters;
 mod ending;
 mod help;
-mod intake;
 mod law;
 mod objects;
-mod output;
 mod outside;
 mod running;
+mod selecting;
 mod telling;
-mod words;
 
-pub use adapters::{StdSink, StdSource};
+pub use centre_select::{MAX_INPUT, SELECT_HELP, StdSink, StdSource, Word};
 pub use centre_serve::Worker;
-pub use ending::{Refusal, Stop, Word};
-pub use help::{DRILL_HELP, HELP, INIT_HELP, SELECT_HELP, SERVE_HELP, TALK_HELP, VERSION};
-pub use law::{one_answer_at_most, some_answer};
+pub use ending::{Refusal, Stop};
+pub use help::{DRILL_HELP, HELP, INIT_HELP, SERVE_HELP, TALK_HELP, VERSION};
+pub use law::{one_answer_at_most, some_answer, the_small_program_says_the_same};
 pub use objects::Outside;
 pub use outside::outside_of;
 pub use running::{Ended, run};
 pub use streams::{MemorySink, MemorySource, Sink, Source, Stream};
 pub use telling::out_of_memory;
-
-/// How many bytes the input of `select` may have.
-pub const MAX_INPUT: usize = 67_108_864;

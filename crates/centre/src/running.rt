@@ -1,31 +1,30 @@
 //! The top call: all that the program does.
 ghost use Rattle.std.specs.Prelude.{◌≡◌, ◌⊎◌, ◌≤◌, [], length, map, option_map, string_bytes, vec_capacity, None};
-ghost use Rattle.command_words.specs.Arguments.{words_at, init_words_at, talk_words_at, serve_words_at, drill_words_at, command_at};
+ghost use Rattle.command_words.specs.Arguments.{limits_at as limit_words_at, init_words_at, talk_words_at, serve_words_at, drill_words_at, command_at};
 ghost use Rattle.command_words.specs.Commands.{command_of};
-ghost use Rattle.centre.specs.Answers.{stop_for_data};
+ghost use Rattle.centre_select.specs.Table.{streams};
 ghost use Rattle.centre.specs.Drills.{DrillEnding, stop_for_drill};
-ghost use Rattle.centre.specs.Given.{streams, world};
+ghost use Rattle.centre.specs.Given.{world};
+ghost use Rattle.centre.specs.Limits.{limits_at};
 ghost use Rattle.centre.specs.Serves.{ServeEnding, stop_for_serve};
 ghost use Rattle.centre.specs.Settled.{RunRows};
-ghost use Rattle.centre.specs.Table.{IsRun, IsStarved, IsEnding, SelectRow, InitRow, ShowRow, stop_for_founding};
+ghost use Rattle.centre.specs.Table.{IsRun, IsStarved, IsEnding, InitRow, ShowRow, stop_for_founding};
 ghost use Rattle.centre.specs.Talks.{TalkEnding, stop_for_talk};
 
 use crate::ending::{Refusal, Stop};
 use crate::help::text_shown;
-use crate::intake::take_records;
-use crate::output::put_rows;
+use crate::selecting::choose;
 use crate::telling::{out_of_memory, tell_stop};
-use crate::words::select_query;
 use archive_log::{Archive, FoundFault};
+use archive_state::Limits;
 use centre_drill::{DrillStop, Drilled, drill};
 use centre_serve::{ServeStop, Served, Worker, ports_of, serve};
 use centre_session::{Clock, Trail};
 use centre_talk::{TalkStop, Talked, talk};
 use command_words::{
-    CommandWords, DrillArguments, InitArguments, SelectArguments, ServeArguments, TalkArguments,
+    CommandWords, DrillArguments, InitArguments, LimitArguments, ServeArguments, TalkArguments,
     command_in,
 };
-use dataselect::{All, DataRefusal, answer_places};
 use disk_model::Disk;
 use exact_time::OutOfMemory;
 use http_digest::Secret;
@@ -35,48 +34,6 @@ use std::alloc::Global;
 use std::sync::Wait;
 use std::thread::Threads;
 use streams::{Sink, Source, put_all};
-use time_index::TimeIndex;
-
-// How a refusal of the answer stops the run.
-fn stop_for_data(limit: u64, refusal: DataRefusal) -> Stop
-    ensures { result ≡ stop_for_data limit refusal }
-{
-    match refusal {
-        DataRefusal::Empty => Stop::Refused(Refusal::NoData),
-        DataRefusal::TooLarge(bytes) => Stop::Refused(Refusal::TooLarge { bytes, limit }),
-        DataRefusal::OutOfMemory => Stop::OutOfMemory,
-    }
-}
-
-// The command `select`: query, input, records, answer, output.
-fn select<S: Source, K: Sink>(
-    alloc: Global,
-    arguments: &SelectArguments,
-    source: &mut S,
-    sink: &mut K,
-) -> Result<(), Stop>
-    ensures row { SelectRow (words_at arguments.now)
-        (streams (S.view source.old) (K.view sink.old)) (streams (S.view source.new) (K.view sink.new))
-        result }
-{
-    let query = match select_query(alloc, arguments) {
-        Ok(query) => query,
-        Err(stop) => return Err(stop),
-    };
-    let mut shelf = TimeIndex::new(alloc);
-    match take_records(alloc, &query, source, &mut shelf) {
-        Ok(()) => (),
-        Err(untaken) => return Err(untaken),
-    }
-    let places = match answer_places(&shelf, &All, &query, arguments.limit) {
-        Ok(places) => places,
-        Err(refusal) => return Err(stop_for_data(arguments.limit, refusal)),
-    };
-    match put_rows(sink, &shelf, places.as_slice()) {
-        Ok(()) => Ok(()),
-        Err(_) => Err(Stop::WriteFault),
-    }
-}
 
 // A command that shows a text, by the same path as data.
 fn show<S: Source, K: Sink>(text: &str, source: &S, sink: &mut K) -> Result<(), Stop>
@@ -98,6 +55,18 @@ fn stop_for_founding(fault: FoundFault) -> Stop
         FoundFault::DiskFault => Stop::DiskFault,
         FoundFault::NotEmpty(_) => Stop::Refused(Refusal::NotEmpty),
         FoundFault::OutOfMemory => Stop::OutOfMemory,
+    }
+}
+
+// The limits that the words give.
+fn limits_for(arguments: &LimitArguments) -> Limits
+    ensures { limits_at result ≡ limit_words_at arguments.now }
+{
+    Limits {
+        max_bytes: arguments.max_bytes,
+        max_lines: arguments.max_lines,
+        max_records: arguments.max_records,
+        max_archive: arguments.max_archive,
     }
 }
 
@@ -185,12 +154,12 @@ fn converse<R: Wait, S: Source, K: Sink, D: Disk, C: Clock, P: Port + Drop>(
         (world (S.view source.new) (K.view sink.new) result.disk (C.given clock.new) result.trail (map P.view result.ports.items))
         result.ending }
 {
-    let limits = &arguments.limits;
+    let limits = limits_for(&arguments.limits);
     let Talked {
         ending,
         disk,
         trail,
-    } = talk(rt, alloc, source, sink, disk, clock, secret, limits);
+    } = talk(rt, alloc, source, sink, disk, clock, secret, &limits);
     match ending {
         Ok(()) => Done {
             ending: Ok(()),
@@ -248,12 +217,12 @@ fn host<
         (world (S.view source.now) (K.view sink.now) result.disk (C.given clock.now) result.trail (map P.view result.ports.items))
         result.ending }
 {
-    let limits = &arguments.limits;
+    let limits = limits_for(&arguments.limits);
     let Served {
         ending,
         disk,
         ports,
-    } = serve(rt, alloc, disk, workers, room, secret, limits);
+    } = serve(rt, alloc, disk, workers, room, secret, &limits);
     match ending {
         Ok(()) => Done {
             ending: Ok(()),
@@ -346,7 +315,7 @@ fn obey_command<
             ports: ports_of(workers, room),
         },
         Some(CommandWords::Select(arguments)) => Done {
-            ending: select(alloc, &arguments, source, sink),
+            ending: choose(alloc, &arguments, source, sink),
             disk,
             trail: None,
             ports: ports_of(workers, room),

@@ -1,51 +1,17 @@
 //! Tells why a run stopped.
 ghost use Rattle.std.specs.Prelude.{◌≡◌, ◌⊎◌, string_bytes, IfOk};
-ghost use Rattle.centre.specs.Status.{name_of_word, error_text_of, text_of_refusal};
-ghost use Rattle.centre.specs.Table.{Tells, ToldFor};
+ghost use Rattle.centre_select.specs.Status.{Tells};
+ghost use Rattle.centre.specs.Selects.{stop_for_select};
+ghost use Rattle.centre.specs.Status.{error_text_of, text_of_refusal};
+ghost use Rattle.centre.specs.Table.{ToldFor};
 
-use crate::ending::{Refusal, Stop, Word};
-use centre_desk::Fault;
-use mseed_header::RecordFault;
+use crate::ending::{Refusal, Stop};
+use crate::selecting::stop_for_select;
+use centre_select::{SelectRefusal, SelectStop, tell, tell_refusal as tell_refused};
 use std::alloc::{AllocError, Global};
-use streams::{Sink, put_all};
+use streams::Sink;
 
 const MEMORY_TEXT: &str = "centre: out of memory\n";
-
-// The text for a word whose value can't be read.
-fn value_text(word: Word) -> &'static str
-    ensures { result.now ≡ text_of_refusal (Refusal.Value word) }
-{
-    match word {
-        Word::Network => "centre: query: Value NET\n",
-        Word::Station => "centre: query: Value STA\n",
-        Word::Location => "centre: query: Value LOC\n",
-        Word::Channel => "centre: query: Value CHA\n",
-        Word::Start => "centre: query: Value START\n",
-        Word::End => "centre: query: Value END\n",
-        Word::Quality => "centre: query: Value QUALITY\n",
-        Word::Minimum => "centre: query: Value MINIMUM\n",
-        Word::Longest => "centre: query: Value LONGEST\n",
-    }
-}
-
-fn record_text(alloc: Global, at: usize, fault: RecordFault) -> Result<String, AllocError>
-    ensures { IfOk result (λ text. string_bytes text ≡ text_of_refusal (Refusal.Record at fault)) }
-{
-    let mut text = format!(in alloc; "centre: record at offset {at}: ")?;
-    let name = format!(in alloc; "{fault}")?;
-    text.push_str(name.as_str())?;
-    text.push_str("\n")?;
-    Ok(text)
-}
-
-fn size_text(alloc: Global, bytes: u64, limit: u64) -> Result<String, AllocError>
-    ensures { IfOk result (λ text. string_bytes text ≡ text_of_refusal (Refusal.TooLarge bytes limit)) }
-{
-    let fault = Fault::ManyBytes { bytes, most: limit };
-    let mut text = format!(in alloc; "centre: {fault}")?;
-    text.push_str("\n")?;
-    Ok(text)
-}
 
 fn damage_text(alloc: Global, at: u64) -> Result<String, AllocError>
     ensures { IfOk result (λ text. string_bytes text ≡ text_of_refusal (Refusal.Damaged at)) }
@@ -55,11 +21,13 @@ fn damage_text(alloc: Global, at: u64) -> Result<String, AllocError>
     Ok(text)
 }
 
-// Writes a text, as far as the errors take it.
-fn tell<E: Sink>(errors: &mut E, text: &str)
-    ensures { Tells (E.view errors.old) (E.view errors.new) text.now }
+// Tells a refusal of `select`.
+fn tell_select<E: Sink>(alloc: Global, errors: &mut E, refusal: SelectRefusal) -> Stop
+    ensures same { ToldFor (stop_for_select (SelectStop.Refused refusal)) result }
+    ensures text { Tells (E.view errors.old) (E.view errors.new)
+        (error_text_of result) }
 {
-    let _ = put_all(errors, text.as_bytes());
+    stop_for_select(tell_refused(alloc, errors, refusal))
 }
 
 // Tells a refusal by the text that was made for it, or want of memory where it couldn't be made.
@@ -89,21 +57,25 @@ fn tell_refusal<E: Sink>(alloc: Global, errors: &mut E, refusal: Refusal) -> Sto
 {
     match refusal {
         Refusal::UnknownCommand => tell(errors, "centre: unknown command line\n"),
-        Refusal::Value(word) => tell(errors, value_text(word)),
-        Refusal::Order => tell(errors, "centre: query: Order\n"),
-        Refusal::Record { at, fault } => {
-            return tell_made(errors, refusal, record_text(alloc, at, fault));
+        Refusal::Value(word) => {
+            return tell_select(alloc, errors, SelectRefusal::Value(word));
         }
-        Refusal::NoData => tell(errors, "centre: no data\n"),
+        Refusal::Order => return tell_select(alloc, errors, SelectRefusal::Order),
+        Refusal::Record { at, fault } => {
+            return tell_select(alloc, errors, SelectRefusal::Record { at, fault });
+        }
+        Refusal::NoData => return tell_select(alloc, errors, SelectRefusal::NoData),
         Refusal::TooLarge { bytes, limit } => {
-            return tell_made(errors, refusal, size_text(alloc, bytes, limit));
+            return tell_select(alloc, errors, SelectRefusal::TooLarge { bytes, limit });
         }
         Refusal::NotEmpty => tell(errors, "centre: journal is not empty\n"),
         Refusal::NotAJournal => tell(errors, "centre: not a journal\n"),
         Refusal::Damaged(at) => {
             return tell_made(errors, refusal, damage_text(alloc, at));
         }
-        Refusal::InputTooLong => tell(errors, "centre: input too long\n"),
+        Refusal::InputTooLong => {
+            return tell_select(alloc, errors, SelectRefusal::InputTooLong);
+        }
         Refusal::RequestCut => tell(errors, "centre: request cut\n"),
     }
     Stop::Refused(refusal)

@@ -1,5 +1,5 @@
 -- A session so far, and how it ends.
-use Rattle.std.proofs.Common.{◌≡◌, ◌∙◌, refl, sym, ap, subst, arith, inl, inr, ⊎_elim, ℕ, zero, suc, ◌+◌, ◌-◌, ◌≤◌, true, false, List, [], ◌∷◌, ◌++◌, length, length-append, append_assoc, take, Option, None, Some, Result, Ok, Err}
+use Rattle.std.proofs.Common.{◌≡◌, ◌∙◌, refl, sym, ap, subst, arith, inl, inr, ⊎_elim, ℕ, ◌+◌, ◌≤◌, true, false, List, [], ◌∷◌, ◌++◌, length, append_assoc, Option, None, Some, Result, Ok, Err}
 use Rattle.std.proofs.lemmas.List.{append-nil, map-append}
 use Rattle.std.specs.Io.KnownBytes.{Consumes}
 use Rattle.exact_time.specs.Causes.{Rose}
@@ -23,13 +23,13 @@ use Rattle.streams.proofs.Grows.{Consumes-then, Grew-then}
 use Rattle.streams.specs.Effects.{Grew, WritesPart, PutsAll}
 use Rattle.streams.specs.View.{StreamView}
 use Rattle.centre_session.specs.Clocks.{GaveAll}
-use Rattle.centre_session.specs.Items.{Item, asked, refused, closing, over, cut, Says, AreItems, AreFirst, AreOpen, BeginsHead, IsInterim, item_output, output_of, memory_reply}
-use Rattle.centre_session.specs.Session.{Scene, scene, moments_of, but_last, Session, Ended, Broken, RanOut, WritesLast, SessionRow}
+use Rattle.centre_session.specs.Items.{Item, asked, refused, closing, over, cut, Says, AreItems, AreFirst, AreOpen, BeginsHead, IsInterim, output_of, memory_reply}
+use Rattle.centre_session.specs.Session.{Scene, scene, moments_of, Session, Ended, Broken, RanOut, WritesLast, SessionRow}
 use Rattle.centre_session.specs.Steps.{ItemRow, ShortRow, EndRow, end_by}
 use Rattle.centre_session.specs.Turns.{Serves}
 use Rattle.centre_session.specs.declared.ending.SessionEnd.{SessionEnd}
 use Rattle.centre_session.specs.declared.ending.SessionEnd.TheVariants.{Closed, Cut, LinkFault, Memory}
-use Rattle.centre_session.proofs.Items.{items_end, first_open, open_more, items_closing, first_more, items_refused, first_refused, without_last}
+use Rattle.centre_session.proofs.Items.{items_end, first_open, open_more, items_closing, first_more, items_refused, first_refused}
 use Rattle.centre_session.proofs.Fronts.{same_count}
 use Rattle.centre_session.proofs.Sessions.{serves_more, serves_none, output_more}
 
@@ -177,36 +177,21 @@ module _ (x y : Scene) (s : Setting) (turns : List Turn) (held : List ℕ) (so :
     };
     moments = moments;
     rose = omega (arith, so.later, later, rose);
-    interim = [];
-    interim_is = inl refl;
-    wrote = record {
-      part = (output_of so.items so.replies ++ interim_of gives.head) ++ part.part;
+    broke = inr (record {
+      others = so.items;
+      item = asked gives.head r;
+      items_are = refl;
+      earlier = so.replies;
+      reply = row.reply;
+      replies_are = refl;
+      part = part.part;
       rest = part.rest;
-      split = append-nil _ ∙ (sym all_output ∙ (ap (λ (w : List ℕ). (output_of so.items so.replies ++ interim_of gives.head) ++ w) part.split ∙ sym (append_assoc (output_of so.items so.replies ++ interim_of gives.head) part.part part.rest)));
-      output = Grew-then x.link.written link.written z.link.written (output_of so.items so.replies ++ interim_of gives.head) part.part before_reply part.output;
-    };
-    whole = whole_front;
+      split = part.split;
+      wrote = Grew-then x.link.written link.written z.link.written (output_of so.items so.replies ++ interim_of gives.head) part.part before_reply part.output;
+    });
   })
-    where
-      whole_front : length (output_of (but_last (so.items ++ asked gives.head r ∷ [])) (but_last (so.replies ++ row.reply ∷ []))) ≤ length ((output_of so.items so.replies ++ interim_of gives.head) ++ part.part)
-      whole_front =
-          let a = ap (λ (l : List Item). length (output_of l (but_last (so.replies ++ row.reply ∷ [])))) (without_last so.items (asked gives.head r)) in
-          let b = ap (λ (l : List Reply). length (output_of so.items l)) (without_last so.replies row.reply) in
-          omega (arith, a ∙ b, length-append (output_of so.items so.replies ++ interim_of gives.head) part.part, length-append (output_of so.items so.replies) (interim_of gives.head))
 
 -- ---- no request was read
-
-but_last_within : (n m : ℕ) (items : List Item) (replies : List Reply) → length (output_of (take n items) (take m replies)) ≤ length (output_of items replies)
-but_last_within zero m items replies = omega arith
-but_last_within (suc n) zero items replies = nothing_of (take (suc n) items)
-  where
-    nothing_of : (is : List Item) → length (output_of is []) ≤ length (output_of items replies)
-    nothing_of [] = omega arith
-    nothing_of (i ∷ is) = omega arith
-but_last_within (suc n) (suc m) [] replies = omega arith
-but_last_within (suc n) (suc m) (i ∷ items) [] = omega arith
-but_last_within (suc n) (suc m) (i ∷ items) (r ∷ replies) =
-    omega (arith, but_last_within n m items replies, length-append (item_output i r) (output_of (take n items) (take m replies)), length-append (item_output i r) (output_of items replies))
 
 module _ (x y : Scene) (s : Setting) (turns : List Turn) (held : List ℕ) (so : SoFar x y s turns held) (link : StreamView) (later : y.link.faults ≤ link.faults) where
   -- a clock and a desk as before, and a link that was read
@@ -280,6 +265,7 @@ module _ (x y : Scene) (s : Setting) (turns : List Turn) (held : List ℕ) (so :
 
   -- the link failed before anything was written
   broken_quiet : Rose y.link.faults link.faults → link.written ≡ y.link.written → Broken x (scene y.stand link y.given) s turns
+  unfolding stands
   broken_quiet rose quiet = record {
     items = so.items;
     replies = so.replies;
@@ -287,20 +273,21 @@ module _ (x y : Scene) (s : Setting) (turns : List Turn) (held : List ℕ) (so :
     session = stands [] y.link.left (consumes_none y.link.left);
     moments = so.moments;
     rose = omega (arith, so.later, rose);
-    interim = [];
-    interim_is = inl refl;
-    wrote = record {
-      part = output_of so.items so.replies;
+    broke = inl (record {
+      none_closes = record { used = so.used; split = split_more []; open_are = so.open_are };
+      interim = [];
+      interim_is = inl refl;
+      part = [];
       rest = [];
       split = refl;
-      output = grew_same x.link.written y.link.written link.written (output_of so.items so.replies) so.wrote quiet;
-    };
-    whole = but_last_within (length so.items - 1) (length so.replies - 1) so.items so.replies;
+      wrote = subst (λ (w : List ℕ). Grew x.link.written link.written w) (sym (append-nil _)) (grew_same x.link.written y.link.written link.written (output_of so.items so.replies) so.wrote quiet);
+    });
   }
 
   -- the link failed while the interim reply was written
   broken_part : {head : HeadView} → Rose y.link.faults link.faults → ReadsHead body_limit y.link.left held head → WritesPart y.link.written link.written (interim_of head)
       → Broken x (scene y.stand link y.given) s turns
+  unfolding stands
   broken_part {head} rose reads part = record {
     items = so.items;
     replies = so.replies;
@@ -308,15 +295,15 @@ module _ (x y : Scene) (s : Setting) (turns : List Turn) (held : List ℕ) (so :
     session = stands reads.taken reads.later reads.lost;
     moments = so.moments;
     rose = omega (arith, so.later, rose);
-    interim = interim_of head;
-    interim_is = inr (begun reads, refl);
-    wrote = record {
-      part = output_of so.items so.replies ++ part.part;
+    broke = inl (record {
+      none_closes = record { used = so.used; split = split_more reads.taken; open_are = so.open_are };
+      interim = interim_of head;
+      interim_is = inr (begun reads, refl);
+      part = part.part;
       rest = part.rest;
-      split = ap (λ (w : List ℕ). output_of so.items so.replies ++ w) part.split ∙ sym (append_assoc (output_of so.items so.replies) part.part part.rest);
-      output = Grew-then x.link.written y.link.written link.written (output_of so.items so.replies) part.part so.wrote part.output;
-    };
-    whole = omega (arith, but_last_within (length so.items - 1) (length so.replies - 1) so.items so.replies, length-append (output_of so.items so.replies) part.part);
+      split = part.split;
+      wrote = Grew-then x.link.written y.link.written link.written (output_of so.items so.replies) part.part so.wrote part.output;
+    });
   }
 
   pub broken_at : Rose y.link.faults link.faults → BreaksOff body_limit y.link.left held y.link.written link.written → Broken x (scene y.stand link y.given) s turns
@@ -427,22 +414,19 @@ module _ (x y : Scene) (s : Setting) (turns : List Turn) (held : List ℕ) (so :
       };
       moments = moments_all;
       rose = omega (arith, so.later, later, rose);
-      interim = [];
-      interim_is = inl refl;
-      wrote = record {
-        part = output_of so.items so.replies ++ part.part;
+      broke = inr (record {
+        others = so.items;
+        item = refused f;
+        items_are = refl;
+        earlier = so.replies;
+        reply = row.reply;
+        replies_are = refl;
+        part = part.part;
         rest = part.rest;
-        split = append-nil _ ∙ (sym output_all ∙ (ap (λ (w : List ℕ). output_of so.items so.replies ++ w) part.split ∙ sym (append_assoc (output_of so.items so.replies) part.part part.rest)));
-        output = Grew-then x.link.written link.written z.link.written (output_of so.items so.replies) part.part before_it part.output;
-      };
-      whole = front_whole;
+        split = part.split;
+        wrote = subst (λ (w : List ℕ). Grew x.link.written z.link.written (w ++ part.part)) (sym (append-nil _)) (Grew-then x.link.written link.written z.link.written (output_of so.items so.replies) part.part before_it part.output);
+      });
     })
-      where
-        front_whole : length (output_of (but_last (so.items ++ refused f ∷ [])) (but_last (so.replies ++ row.reply ∷ []))) ≤ length (output_of so.items so.replies ++ part.part)
-        front_whole =
-            let a = ap (λ (l : List Item). length (output_of l (but_last (so.replies ++ row.reply ∷ [])))) (without_last so.items (refused f)) in
-            let b = ap (λ (l : List Reply). length (output_of so.items l)) (without_last so.replies row.reply) in
-            omega (arith, a ∙ b, length-append (output_of so.items so.replies) part.part)
 
   refused_at : (f : HeadFault) → StopsAtFront body_limit y.link.left link.left held y.link.written link.written (end.Head f) → (z : Scene) (new : List Turn)
       (result : Result (Unit {0}) WriteFault) (row : ItemRow (scene y.stand link y.given) z s (refused f) turns new result) → SessionRow x z s new (end_by result)

@@ -1,6 +1,5 @@
 -- Items one behind another.
-use Rattle.std.proofs.Common.{◌≡◌, ◌∙◌, refl, sym, ap, subst, arith, ℕ, ◌+◌, ◌-◌, Bool, true, false, MatchBool, List, [], ◌∷◌, ◌++◌, length, length-append, append_assoc, take}
-use Rattle.std.proofs.Math.Seq.{take-append_seam}
+use Rattle.std.proofs.Common.{◌≡◌, ◌∙◌, refl, sym, ap, subst, arith, ℕ, ◌+◌, Bool, true, false, MatchBool, List, [], ◌∷◌, ◌++◌, length, append_assoc}
 use Rattle.std.proofs.lemmas.List.{append-nil}
 use Rattle.http_wire.specs.Fronts.{front_limit}
 use Rattle.http_wire.specs.Heads.{HeadView}
@@ -9,7 +8,6 @@ use Rattle.http_wire.specs.declared.ending.HeadFault.{HeadFault}
 use Rattle.http_wire.specs.declared.ending.StreamEnd.TheVariants as end
 use Rattle.http_wire.specs.declared.request.Request.{Request}
 use Rattle.centre_session.specs.Items.{Item, asked, refused, Ending, closing, Says, EndsSo, AreItems, AreFirst, AreOpen}
-use Rattle.centre_session.specs.Session.{but_last}
 
 assoc4 : (a b c d : List ℕ) → a ≡ b ++ c → a ++ d ≡ b ++ (c ++ d)
 assoc4 a b c d is = ap (λ (w : List ℕ). w ++ d) is ∙ append_assoc b c d
@@ -97,8 +95,3 @@ first_refused before used v [] f none e = (refl, refl, subst (λ (w : List ℕ).
 first_refused before used v (refused g ∷ items) f none e = absurd none
 first_refused before used v (asked view q ∷ items) f o e =
     (o.0, o.1 ++ v, assoc4 used o.0 o.1 v o.2, o.3, o.4, when_open _ q.close o.5 (first_refused (before + 1) o.1 v items f o.6 e))
-
-pub without_last : {A : Type 0} (xs : List A) (x : A) → but_last (xs ++ x ∷ []) ≡ xs
-without_last xs x =
-    let n : length (xs ++ x ∷ []) - 1 ≡ length xs = omega (arith, length-append xs (x ∷ [])) in
-    ap (λ (k : ℕ). take k (xs ++ x ∷ [])) n ∙ take-append_seam xs (x ∷ [])

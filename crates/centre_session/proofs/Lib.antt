@@ -1,7 +1,9 @@
 pub mod Bodies
 pub mod Endings
+pub mod EveryItem
 pub mod Fronts
 pub mod Items
+pub mod OneList
 pub mod Refusals
 pub mod Says
 pub mod Sessions

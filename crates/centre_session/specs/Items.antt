@@ -79,10 +79,14 @@ AreOpen before bytes (asked head r ∷ items) =
     (used : List ℕ) × (rest : List ℕ) × (bytes ≡ used ++ rest) × IsRequest front_limit body_limit used head r.body × Says before head r
     × (r.close ≡ false) × AreOpen (before + 1) rest items
 
--- what is written of an item: the interim reply that it asks for, and its reply
+-- what is written of an item before its reply: the interim reply that it asks for
+abbrev pub interim_before : Item → List ℕ
+interim_before (asked head r) = interim_of head
+interim_before (refused f) = []
+
+-- what is written of an item: that, and its reply
 abbrev pub item_output : Item → Reply → List ℕ
-item_output (asked head r) reply = interim_of head ++ reply_bytes reply
-item_output (refused f) reply = reply_bytes reply
+item_output item reply = interim_before item ++ reply_bytes reply
 
 -- what is written of items, as far as they have replies
 abbrev pub output_of : List Item → List Reply → List ℕ

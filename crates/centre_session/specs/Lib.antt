@@ -1,5 +1,6 @@
 pub mod Clocks
 pub mod Items
+pub mod Laws
 pub mod Session
 pub mod Sources
 pub mod Steps

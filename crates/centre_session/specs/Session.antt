@@ -1,5 +1,5 @@
 -- A session over a link.
-use Rattle.std.specs.Prelude.{◌≡◌, ◌⊎◌, ℕ, ◌-◌, ◌≤◌, true, false, List, [], ◌∷◌, ◌++◌, length, take, map, ⊤, Option, None}
+use Rattle.std.specs.Prelude.{◌≡◌, ◌⊎◌, ℕ, ◌≤◌, true, false, List, [], ◌∷◌, ◌++◌, length, map, ⊤, Option, None}
 use Rattle.std.specs.Io.KnownBytes.{Consumes, IsAtEnd}
 use Rattle.exact_time.specs.Causes.{Rose}
 use Rattle.exact_time.specs.declared.moment.Moment.{Moment}
@@ -8,10 +8,10 @@ use Rattle.desk_words.specs.Stand.{Stand}
 use Rattle.http_replies.specs.declared.reply.Reply.{Reply}
 use Rattle.http_replies.specs.Replies.{reply_bytes}
 use Rattle.http_wire.specs.declared.turn.Turn.{Turn}
-use Rattle.streams.specs.Effects.{Grew, WritesPart}
+use Rattle.streams.specs.Effects.{Grew}
 use Rattle.streams.specs.View.{StreamView}
 use Rattle.centre_session.specs.Clocks.{GaveAll}
-use Rattle.centre_session.specs.Items.{Item, Ending, closing, over, cut, AreItems, AreFirst, AreOpen, IsInterim, output_of, memory_reply}
+use Rattle.centre_session.specs.Items.{Item, Ending, closing, over, cut, AreItems, AreFirst, AreOpen, IsInterim, interim_before, output_of, memory_reply}
 use Rattle.centre_session.specs.Turns.{Serves}
 use Rattle.centre_session.specs.declared.ending.SessionEnd.{SessionEnd}
 use Rattle.centre_session.specs.declared.ending.SessionEnd.TheVariants.{Closed, Cut, LinkFault, Memory}
@@ -27,9 +27,6 @@ scene stand link given = record { stand = stand; link = link; given = given }
 
 abbrev pub moments_of : List Turn → List Moment
 moments_of turns = map (λ t. t.moment) turns
-
-abbrev pub but_last : {A : Type 0} → List A → List A
-but_last xs = take (length xs - 1) xs
 
 -- These items, which had these turns and these replies, in order, over one history, are the first ones of what was taken
 -- from the link up to one moment; those bytes are behind them.
@@ -61,8 +58,37 @@ pub record Ended (before after : Scene) (s : Setting) (turns : List Turn) (endin
   pub moments : GaveAll before.given after.given (moments_of turns)
   pub wrote : Grew before.link.written after.link.written (output_of items replies ++ interim)
 
--- A session that a fault of the link stopped: a first part was written of the output of the items that have turns, and of
--- the interim reply of the next one. All replies but the last are whole in it.
+-- these items are whole requests, none of which closes, and the bytes of all that was taken but what is behind them
+pub record NoneCloses (taken behind : List ℕ) (items : List Item) : Type 0 where
+  pub used : List ℕ
+  pub split : taken ≡ used ++ behind
+  pub open_are : AreOpen 0 used items
+
+-- The link failed while a request was read, or while the interim reply that it asks for was written. No request before it
+-- closes, and all of their output is whole.
+pub record BrokeReading (before after : StreamView) (taken behind : List ℕ) (items : List Item) (replies : List Reply) : Type 0 where
+  pub none_closes : NoneCloses taken behind items
+  pub interim : List ℕ
+  pub interim_is : IsInterim behind interim
+  pub part : List ℕ
+  pub rest : List ℕ
+  pub split : interim ≡ part ++ rest
+  pub wrote : Grew before.written after.written (output_of items replies ++ part)
+
+-- It failed while the last reply was written: all that is written before that reply is whole.
+pub record BrokeReplying (before after : StreamView) (items : List Item) (replies : List Reply) : Type 0 where
+  pub others : List Item
+  pub item : Item
+  pub items_are : items ≡ others ++ item ∷ []
+  pub earlier : List Reply
+  pub reply : Reply
+  pub replies_are : replies ≡ earlier ++ reply ∷ []
+  pub part : List ℕ
+  pub rest : List ℕ
+  pub split : reply_bytes reply ≡ part ++ rest
+  pub wrote : Grew before.written after.written (output_of others earlier ++ interim_before item ++ part)
+
+-- a session that a fault of the link stopped
 pub record Broken (before after : Scene) (s : Setting) (turns : List Turn) : Type 0 where
   pub items : List Item
   pub replies : List Reply
@@ -70,16 +96,7 @@ pub record Broken (before after : Scene) (s : Setting) (turns : List Turn) : Typ
   pub session : Session before after s items turns replies behind
   pub moments : GaveAll before.given after.given (moments_of turns)
   pub rose : Rose before.link.faults after.link.faults
-  pub interim : List ℕ
-  pub interim_is : IsInterim behind interim
-  pub wrote : WritesPart before.link.written after.link.written (output_of items replies ++ interim)
-  pub whole : length (output_of (but_last items) (but_last replies)) ≤ length wrote.part
-
--- these items are whole requests, none of which closes, and the bytes of all that was taken but what is behind them
-pub record NoneCloses (taken behind : List ℕ) (items : List Item) : Type 0 where
-  pub used : List ℕ
-  pub split : taken ≡ used ++ behind
-  pub open_are : AreOpen 0 used items
+  pub broke : BrokeReading before.link after.link session.taken behind items replies ⊎ BrokeReplying before.link after.link items replies
 
 -- the link failed when some bytes were written, and behind them a first part of the last ones
 pub record CutsLast (before after : StreamView) (front last : List ℕ) : Type 0 where

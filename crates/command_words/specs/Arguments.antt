@@ -1,5 +1,5 @@
 -- The texts of the words that the code lends.
-use Rattle.archive_state.specs.declared.limits.Limits.{Limits}
+use Rattle.command_words.specs.declared.arguments.LimitArguments.{LimitArguments}
 use Rattle.command_words.specs.Commands.{SelectWords, InitWords, LimitWords, TalkWords, ServeWords, DrillWords, Command, select, init, talk, serve, drill, show}
 use Rattle.command_words.specs.declared.arguments.CommandWords.{CommandWords}
 use Rattle.command_words.specs.declared.arguments.CommandWords.TheVariants.{Select, Init, Talk, Serve, Drill, Show}
@@ -26,7 +26,7 @@ words_at a = record {
 abbrev pub init_words_at : InitArguments → InitWords
 init_words_at a = record { journal = a.journal.now; operator = a.operator.now; ha1 = a.ha1.now }
 
-abbrev pub limits_at : Limits → LimitWords
+abbrev pub limits_at : LimitArguments → LimitWords
 limits_at limits = record {
   max_bytes = limits.max_bytes;
   max_lines = limits.max_lines;

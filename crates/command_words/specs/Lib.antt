@@ -1,4 +1,5 @@
 pub mod Arguments
 pub mod Commands
 pub mod Layouts
+pub mod Limits
 pub mod Values

@@ -1,10 +1,9 @@
 //! What the words say behind a command's name.
 ghost use Rattle.std.specs.Prelude.{◌≡◌, true};
-ghost use Rattle.archive_state.specs.Limits.{is_limit};
+ghost use Rattle.command_words.specs.Limits.{is_limit};
 ghost use Rattle.epochs.specs.Fields.{is_user_name, is_ha1};
 
 use crate::name::Shown;
-use archive_state::Limits;
 
 /// The words of `select` behind its name: its positions, and what its options say.
 #[derive(Clone, Copy)]
@@ -35,13 +34,30 @@ pub struct InitArguments<'a> {
     pub ghost ha1_is: { is_ha1 ha1.now ≡ true },
 }
 
+/// How much an answer and the archive may have. The type keeps that each limit is from 1 to its greatest number.
+#[derive(Clone, Copy)]
+pub struct LimitArguments {
+    /// Bytes of an answer of records.
+    pub max_bytes: u64,
+    /// Lines of an answer of text.
+    pub max_lines: u64,
+    /// Records of all batches.
+    pub max_records: u64,
+    /// Bytes of all bodies.
+    pub max_archive: u64,
+    pub ghost bytes_in: { is_limit 67_108_864 max_bytes ≡ true },
+    pub ghost lines_in: { is_limit 100_000 max_lines ≡ true },
+    pub ghost records_in: { is_limit 2_097_152 max_records ≡ true },
+    pub ghost archive_in: { is_limit 536_870_912 max_archive ≡ true },
+}
+
 /// The words of `talk` behind its name: what its options say.
 #[derive(Clone, Copy)]
 pub struct TalkArguments<'a> {
     /// The path of the journal.
     pub journal: &'a str,
     /// How much an answer and the archive may have.
-    pub limits: Limits,
+    pub limits: LimitArguments,
 }
 
 /// The words of `serve` behind its name: what its options say.
@@ -56,7 +72,7 @@ pub struct ServeArguments<'a> {
     /// Behind how many sessions each worker ends, if it does.
     pub sessions: Option<u64>,
     /// How much an answer and the archive may have.
-    pub limits: Limits,
+    pub limits: LimitArguments,
     pub ghost workers_in: { is_limit 16 workers ≡ true },
 }
 

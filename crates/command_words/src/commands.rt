@@ -7,11 +7,11 @@ ghost use Rattle.command_words.specs.Layouts.{app_for};
 ghost use Rattle.command_words.specs.Values.{read_by};
 
 use crate::arguments::{
-    CommandWords, DrillArguments, InitArguments, SelectArguments, ServeArguments, TalkArguments,
+    CommandWords, DrillArguments, InitArguments, LimitArguments, SelectArguments, ServeArguments,
+    TalkArguments,
 };
 use crate::name::{CommandName, Shown};
 use crate::values::{limit_in, matches_in, number_if, number_or, value_or};
-use archive_state::Limits;
 use clap::ArgMatches;
 use epochs::{is_ha1, is_user_name};
 use exact_time::OutOfMemory;
@@ -80,10 +80,10 @@ fn init_in<'a>(alloc: Global, words: &'a [String]) -> Result<Option<InitArgument
     }
 }
 
-fn limits_with(matches: &ArgMatches<'_>) -> Option<Limits>
+fn limits_with(matches: &ArgMatches<'_>) -> Option<LimitArguments>
     ensures { option_map limits_at result ≡ limits_in (rows_of (found_of matches.now)) }
 {
-    Some(Limits {
+    Some(LimitArguments {
         max_bytes: limit_in(matches, "max-bytes", 67_108_864)?,
         max_lines: limit_in(matches, "max-lines", 100_000)?,
         max_records: limit_in(matches, "max-records", 2_097_152)?,

@@ -1,6 +1,6 @@
 //! The values that the words give.
 ghost use Rattle.std.specs.Prelude.{◌≡◌, IfOk, IfSome, Some, map, option_map, string_bytes, true};
-ghost use Rattle.archive_state.specs.Limits.{is_limit};
+ghost use Rattle.command_words.specs.Limits.{is_limit};
 ghost use Rattle.clap.specs.Words.{first_of, found_of, rows_of};
 ghost use Rattle.command_words.specs.Layouts.{app_for};
 ghost use Rattle.command_words.specs.Values.{value_or, limit_of, limit_in, number_or, number_if, within, Matches};

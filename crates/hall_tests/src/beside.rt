@@ -1,4 +1,5 @@
-//! Two workers in memory: a commit that waits at its gate, with the lock in hand, and a reader that is answered meanwhile.
+//! Three workers in memory: a commit that waits at its gate, with the lock in hand; a reader that is answered meanwhile, from
+//! before that commit; and another post, which comes to its gate only once the first has left its own.
 ghost use Rattle.std.specs.Prelude.{◌≡◌, IfOk, length};
 
 use centre::{MemorySink, MemorySource, Worker, run};
@@ -48,13 +49,20 @@ fn owned_words(alloc: Global, words: &[&str]) -> Result<Vec<String>, Fail> {
 struct Signals {
     at_gate: AtomicBool,
     replying: AtomicBool,
+    at_other_gate: AtomicBool,
     gate_waited: AtomicBool,
     link_waited: AtomicBool,
+    overtaken: AtomicBool,
 }
 
-// Whether it came within a few seconds.
-fn await_signal(signal: &AtomicBool) -> bool {
-    'waits: for _ in 0..1_000_000_000u32 {
+// Within a few seconds, and within a moment.
+const LONG: u32 = 1_000_000_000;
+
+const SHORT: u32 = 5_000_000;
+
+// Whether it came within so many looks.
+fn await_signal(signal: &AtomicBool, looks: u32) -> bool {
+    'waits: for _ in 0..looks {
         if signal.load(Ordering::SeqCst) {
             return true;
         }
@@ -63,9 +71,21 @@ fn await_signal(signal: &AtomicBool) -> bool {
     false
 }
 
-// The gate of the first worker waits until the reply of the second is being written.
+// Who a worker is for.
+#[derive(Clone, Copy, PartialEq, Eq)]
+enum Part {
+    // Posts, and waits at its gate.
+    First,
+    Reader,
+    // Posts once the first is at its gate.
+    Second,
+}
+
+// The gate of the first worker waits until the reply of the reader is being written, and then a moment for the other post, which
+// mustn't come to its gate.
 #[derive(Drop)]
 struct SlowGate<'a> {
+    part: Part,
     signals: &'a Signals,
 }
 
@@ -73,17 +93,23 @@ impl<'a> Gate for SlowGate<'a> {
     ghost passed = { λ before after. Unit {0} };
 
     fn pass<W: Wait>(&mut self, _rt: &W) {
+        if self.part != Part::First {
+            self.signals.at_other_gate.store(true, Ordering::SeqCst);
+            return;
+        }
         self.signals.at_gate.store(true, Ordering::SeqCst);
-        let came = await_signal(&self.signals.replying);
+        let came = await_signal(&self.signals.replying, LONG);
         self.signals.gate_waited.store(came, Ordering::SeqCst);
+        let overtaken = await_signal(&self.signals.at_other_gate, SHORT);
+        self.signals.overtaken.store(overtaken, Ordering::SeqCst);
     }
 }
 
-// A reader gives what it has only once the first worker is at its gate, and tells when it is written to.
+// The others give what they have only once the first worker is at its gate, and the reader tells when it is written to.
 #[derive(Drop)]
 struct SignalLink<'a> {
     link: MemoryLink,
-    is_reader: bool,
+    part: Part,
     signals: &'a Signals,
 }
 
@@ -97,8 +123,8 @@ impl<'a> Stream for SignalLink<'a> {
 
 impl<'a> Source for SignalLink<'a> {
     fn take(&mut self, into: &mut [u8]) -> Result<usize, Failed> {
-        if self.is_reader {
-            let came = await_signal(&self.signals.at_gate);
+        if self.part != Part::First {
+            let came = await_signal(&self.signals.at_gate, LONG);
             self.signals.link_waited.store(came, Ordering::SeqCst);
         }
         self.link.take(into)
@@ -107,7 +133,7 @@ impl<'a> Source for SignalLink<'a> {
 
 impl<'a> Sink for SignalLink<'a> {
     fn put(&mut self, piece: &[u8]) -> Result<usize, Failed> {
-        if self.is_reader {
+        if self.part == Part::Reader {
             self.signals.replying.store(true, Ordering::SeqCst);
         }
         self.link.put(piece)
@@ -118,41 +144,37 @@ impl<'a> Link for SignalLink<'a> {}
 
 type SlowWorker<'a> = Worker<MemoryPort<SignalLink<'a>>, FixedClock, SlowGate<'a>>;
 
-fn link_of<'a>(
-    alloc: Global,
-    signals: &'a Signals,
-    is_reader: bool,
-) -> Result<SignalLink<'a>, Fail> {
-    let input = bytes(alloc, if is_reader { NETWORKS } else { REVISE })?;
+fn link_of<'a>(alloc: Global, signals: &'a Signals, part: Part) -> Result<SignalLink<'a>, Fail> {
+    let input = match part {
+        Part::Reader => bytes(alloc, NETWORKS)?,
+        Part::First | Part::Second => bytes(alloc, REVISE)?,
+    };
     let mut pieces = Many::new(alloc);
     pieces.push(input)?;
     Ok(SignalLink {
         link: MemoryLink::new(alloc, pieces, Many::new(alloc)),
-        is_reader,
+        part,
         signals,
     })
 }
 
-fn worker_of<'a>(
-    alloc: Global,
-    signals: &'a Signals,
-    is_reader: bool,
-) -> Result<SlowWorker<'a>, Fail> {
+fn worker_of<'a>(alloc: Global, signals: &'a Signals, part: Part) -> Result<SlowWorker<'a>, Fail> {
     let mut links = Many::new(alloc);
-    links.push(link_of(alloc, signals, is_reader)?)?;
+    links.push(link_of(alloc, signals, part)?)?;
     Ok(Worker {
         port: MemoryPort::new(alloc, links, Many::new(alloc)),
         clock: clock()?,
-        gate: SlowGate { signals },
+        gate: SlowGate { part, signals },
     })
 }
 
 fn workers_of<'a>(alloc: Global, signals: &'a Signals) -> Result<Vec<SlowWorker<'a>>, Fail>
-    ensures { IfOk result (λ workers. length workers.items ≡ 2) }
+    ensures { IfOk result (λ workers. length workers.items ≡ 3) }
 {
     let mut workers = Vec::new(alloc);
-    workers.push(worker_of(alloc, signals, false)?)?;
-    workers.push(worker_of(alloc, signals, true)?)?;
+    workers.push(worker_of(alloc, signals, Part::First)?)?;
+    workers.push(worker_of(alloc, signals, Part::Reader)?)?;
+    workers.push(worker_of(alloc, signals, Part::Second)?)?;
     Ok(workers)
 }
 
@@ -164,15 +186,15 @@ fn is_told(port: &MemoryPort<SignalLink<'_>>, wanted: &[u8]) -> bool {
     }
 }
 
-// Serves the two, and says whether it ended in order, with both replies.
-fn serve_both<R: Threads + Wait + Sync>(
+// Serves the three, and says whether it ended in order, with all replies.
+fn serve_all<R: Threads + Wait + Sync>(
     rt: &R,
     alloc: Global,
     signals: &Signals,
 ) -> Result<bool, Fail> {
     let words = owned_words(
         alloc,
-        &["serve", "--journal=a", "--listen=b:1", "--workers=2"],
+        &["serve", "--journal=a", "--listen=b:1", "--workers=3"],
     )?;
     let mut source = MemorySource::new(Many::new(alloc), Many::new(alloc));
     let mut sink = MemorySink::new(alloc, Many::new(alloc));
@@ -193,7 +215,10 @@ fn serve_both<R: Threads + Wait + Sync>(
         workers,
     );
     Ok(match ended.ports.as_slice() {
-        [one, two] => ended.status == 0 && is_told(one, REVISED) && is_told(two, NO_NETWORK),
+        [one, two, three] => {
+            ended.status == 0
+                && (is_told(one, REVISED) && is_told(two, NO_NETWORK) && is_told(three, REVISED))
+        }
         _ => false,
     })
 }
@@ -203,12 +228,15 @@ fn answers_while_a_commit_waits(rt: HostRuntime) -> Result<(), Fail> {
     let signals = Signals {
         at_gate: AtomicBool::new(false),
         replying: AtomicBool::new(false),
+        at_other_gate: AtomicBool::new(false),
         gate_waited: AtomicBool::new(false),
         link_waited: AtomicBool::new(false),
+        overtaken: AtomicBool::new(false),
     };
-    assert!(&rt; serve_both(&rt, rt.alloc(), &signals)?);
-    // Neither wait ended by its limit.
+    assert!(&rt; serve_all(&rt, rt.alloc(), &signals)?);
+    // The reader was answered while the first waited, and the other post wasn't let in.
     assert!(&rt; signals.gate_waited.load(Ordering::SeqCst));
     assert!(&rt; signals.link_waited.load(Ordering::SeqCst));
+    assert!(&rt; !signals.overtaken.load(Ordering::SeqCst));
     Ok(())
 }

@@ -188,136 +188,6 @@ fn both_are_stopped<R: Wait + Abort, K: Desk>(
     Ok(())
 }
 
-// What two desks do with one another.
-#[derive(Clone, Copy)]
-enum Course {
-    OneSubmits,
-    TheOtherReplies,
-    BothAreStopped,
-}
-
-// The same between two desks of one hall.
-fn talk_between<'a, J: Naming, T: Carries<J> + Drop, L: Ledger, S: Ledger, R: Wait + Abort>(
-    rt: &R,
-    alloc: Global,
-    one: &mut SharedDesk<'a, MemoryDisk, OpenGate, J, T, L, S>,
-    two: &mut SharedDesk<'a, MemoryDisk, OpenGate, J, T, L, S>,
-    course: Course,
-) -> Result<(), Fail> {
-    match course {
-        Course::OneSubmits => one_submits(rt, alloc, one, two),
-        Course::TheOtherReplies => replies::the_other_replies(rt, alloc, one, two),
-        Course::BothAreStopped => both_are_stopped(rt, alloc, one, two),
-    }
-}
-
-// The same at the two places of a hall.
-fn talk_at<J: Naming, T: Carries<J> + Drop, L: Ledger, S: Ledger, R: Wait + Abort>(
-    rt: &R,
-    alloc: Global,
-    hall: &Hall<MemoryDisk, J, T, L, S>,
-    places: &mut Vec<Place<J, T, L, S>>,
-    course: Course,
-) -> Result<(), Fail>
-    requires { length places.old.items ≡ 2 }
-    ensures { length places.new.items ≡ 2 }
-{
-    let Some(second) = places.pop() else {
-        unreachable!()
-    };
-    let Some(first) = places.pop() else {
-        unreachable!()
-    };
-    let mut one = SharedDesk::new(hall, first, OpenGate);
-    let mut two = SharedDesk::new(hall, second, OpenGate);
-    let talked = talk_between(rt, alloc, &mut one, &mut two, course);
-    let SharedDesk { place, .. } = one;
-    places.push_reserved(place);
-    let SharedDesk { place, .. } = two;
-    places.push_reserved(place);
-    talked
-}
-
-// The disk, once two desks have talked and the hall was closed.
-fn talk<J: Naming, L: Ledger, S: Ledger, R: Wait + Abort>(
-    rt: &R,
-    alloc: Global,
-    archive: Archive<MemoryDisk>,
-    entries: &[Entry],
-    admit: Admit,
-    opened: Opened,
-    made: Blank,
-    halts: Blank,
-    course: Course,
-) -> Result<MemoryDisk, Fail>
-    requires started { IsStarted memory_view archive entries.now admit }
-    requires book { opened ≡ J.book }
-    requires opening { J.opening ≡ entries.now }
-    requires told { (J.told ≡ is_told (memory_view archive.disk)) × (J.faults ≡ archive.faults) }
-    requires made { (made.name ≡ L.name) × (made.parts ≡ L.parts) × (L.parts ≡ 2) }
-    requires halts { (halts.name ≡ S.name) × (halts.parts ≡ S.parts) × (S.parts ≡ 2) }
-{
-    let started = Hall::<MemoryDisk, J, HeldState<J>, L, S>::start(
-        rt, alloc, archive, entries, admit, opened, 2, made, halts,
-    );
-    let (hall, mut places) = match started {
-        Ok(started) => started,
-        Err((_, fault)) => return Err(fault.into()),
-    };
-    let talked = talk_at(rt, alloc, &hall, &mut places, course);
-    let disk = hall.close(rt, places);
-    talked?;
-    Ok(disk)
-}
-
-// The disk of an archive with this file, which fails at these calls, once two desks of a hall over it have talked.
-fn left_by(
-    rt: &(impl Wait + Abort),
-    alloc: Global,
-    file: &[u8],
-    fails: &[u64],
-    course: Course,
-) -> Result<MemoryDisk, Fail> {
-    let (archive, entries, admit) = match Archive::start(alloc, disk_of(alloc, file, fails)?) {
-        Ok(started) => started,
-        Err((_, fault)) => return Err(fault.into()),
-    };
-    talk::<Brand, Brand, Brand, _>(
-        rt,
-        alloc,
-        archive,
-        entries.as_slice(),
-        admit,
-        Opened::new(),
-        Blank::new(2),
-        Blank::new(2),
-        course,
-    )
-}
-
-// How many entries a crash would leave, at that image.
-fn entries_left(alloc: Global, disk: &MemoryDisk, choice: Choice) -> Result<u64, Fail> {
-    Ok(desk_of(alloc, disk.image(choice)?.as_slice())?.front())
-}
-
-#[test]
-fn the_other_desk_sees_what_one_submits(rt: HostRuntime) -> Result<(), Fail> {
-    let alloc = rt.alloc();
-    let file = archive_file(&rt, alloc)?;
-    let disk = left_by(&rt, alloc, file.as_slice(), &[], Course::OneSubmits)?;
-    assert_eq!(rt; entries_left(alloc, &disk, Choice::Old)?, 4);
-    Ok(())
-}
-
-#[test]
-fn the_other_desk_replies_over_what_was_asked_for(rt: HostRuntime) -> Result<(), Fail> {
-    let alloc = rt.alloc();
-    let file = archive_file(&rt, alloc)?;
-    let disk = left_by(&rt, alloc, file.as_slice(), &[], Course::TheOtherReplies)?;
-    assert_eq!(rt; entries_left(alloc, &disk, Choice::Old)?, 4);
-    Ok(())
-}
-
 // What one caller did: how many of its posts were accepted, each by a number that stood in front of its own then; and
 // whether a front ever fell.
 #[derive(Clone, Copy, Debug, PartialEq, Eq)]
@@ -373,43 +243,74 @@ fn posts_of(alloc: Global, author: &str, from: u64, count: u64) -> Result<Many<P
 }
 
 // Both work, each in a thread of its own.
-fn work_beside<
+fn both_work<A: Desk + Send, B: Desk + Send, R: Threads + Wait + Abort + Sync>(
+    rt: &R,
+    alloc: Global,
+    one: &mut A,
+    two: &mut B,
+    firsts: &[Posted],
+    seconds: &[Posted],
+) -> Result<(), Fail> {
+    let worked = join(
+        rt,
+        || work(rt, alloc, one, firsts),
+        || work(rt, alloc, two, seconds),
+    );
+    let all = Turns {
+        accepted: 200,
+        fell: false,
+    };
+    assert_eq!(rt; worked, (Ok(all), Ok(all)));
+    Ok(())
+}
+
+// What two desks do with one another.
+#[derive(Clone, Copy)]
+enum Course<'p> {
+    OneSubmits,
+    TheOtherReplies,
+    BothAreStopped,
+    // What the one posts, and what the other posts meanwhile.
+    BothWork(&'p [Posted], &'p [Posted]),
+}
+
+// The same between two desks of one hall.
+fn talk_between<
     'a,
     J: Naming + Send + Sync,
     T: Carries<J> + Drop + Send + Sync,
     L: Ledger + Send + Sync,
     S: Ledger + Send + Sync,
-    R: Threads + Wait + Sync,
+    R: Threads + Wait + Abort + Sync,
 >(
     rt: &R,
     alloc: Global,
     one: &mut SharedDesk<'a, MemoryDisk, OpenGate, J, T, L, S>,
     two: &mut SharedDesk<'a, MemoryDisk, OpenGate, J, T, L, S>,
-    firsts: &[Posted],
-    seconds: &[Posted],
-) -> (Result<Turns, SubmitFault>, Result<Turns, SubmitFault>) {
-    join(
-        rt,
-        || work(rt, alloc, one, firsts),
-        || work(rt, alloc, two, seconds),
-    )
+    course: Course<'_>,
+) -> Result<(), Fail> {
+    match course {
+        Course::OneSubmits => one_submits(rt, alloc, one, two),
+        Course::TheOtherReplies => replies::the_other_replies(rt, alloc, one, two),
+        Course::BothAreStopped => both_are_stopped(rt, alloc, one, two),
+        Course::BothWork(firsts, seconds) => both_work(rt, alloc, one, two, firsts, seconds),
+    }
 }
 
 // The same at the two places of a hall.
-fn threads_at<
+fn talk_at<
     J: Naming + Send + Sync,
     T: Carries<J> + Drop + Send + Sync,
     L: Ledger + Send + Sync,
     S: Ledger + Send + Sync,
-    R: Threads + Wait + Sync,
+    R: Threads + Wait + Abort + Sync,
 >(
     rt: &R,
     alloc: Global,
     hall: &Hall<MemoryDisk, J, T, L, S>,
     places: &mut Vec<Place<J, T, L, S>>,
-    firsts: &[Posted],
-    seconds: &[Posted],
-) -> (Result<Turns, SubmitFault>, Result<Turns, SubmitFault>)
+    course: Course<'_>,
+) -> Result<(), Fail>
     requires { length places.old.items ≡ 2 }
     ensures { length places.new.items ≡ 2 }
 {
@@ -421,16 +322,16 @@ fn threads_at<
     };
     let mut one = SharedDesk::new(hall, first, OpenGate);
     let mut two = SharedDesk::new(hall, second, OpenGate);
-    let worked = work_beside(rt, alloc, &mut one, &mut two, firsts, seconds);
+    let talked = talk_between(rt, alloc, &mut one, &mut two, course);
     let SharedDesk { place, .. } = one;
     places.push_reserved(place);
     let SharedDesk { place, .. } = two;
     places.push_reserved(place);
-    worked
+    talked
 }
 
-// The file that a crash would leave, once two threads have posted so many records each.
-fn two_threads<
+// The disk, once two desks have talked and the hall was closed.
+fn talk<
     J: Naming + Send + Sync,
     L: Ledger + Send + Sync,
     S: Ledger + Send + Sync,
@@ -444,9 +345,8 @@ fn two_threads<
     opened: Opened,
     made: Blank,
     halts: Blank,
-    firsts: &[Posted],
-    seconds: &[Posted],
-) -> Result<Bytes, Fail>
+    course: Course<'_>,
+) -> Result<MemoryDisk, Fail>
     requires started { IsStarted memory_view archive entries.now admit }
     requires book { opened ≡ J.book }
     requires opening { J.opening ≡ entries.now }
@@ -461,14 +361,58 @@ fn two_threads<
         Ok(started) => started,
         Err((_, fault)) => return Err(fault.into()),
     };
-    let (first, second) = threads_at(rt, alloc, &hall, &mut places, firsts, seconds);
-    let left = hall.close(rt, places).image(Choice::Old)?;
-    let all = Turns {
-        accepted: 200,
-        fell: false,
+    let talked = talk_at(rt, alloc, &hall, &mut places, course);
+    let disk = hall.close(rt, places);
+    talked?;
+    Ok(disk)
+}
+
+// The disk of an archive with this file, which fails at these calls, once two desks of a hall over it have talked.
+fn left_by(
+    rt: &(impl Threads + Wait + Abort + Sync),
+    alloc: Global,
+    file: &[u8],
+    fails: &[u64],
+    course: Course<'_>,
+) -> Result<MemoryDisk, Fail> {
+    let (archive, entries, admit) = match Archive::start(alloc, disk_of(alloc, file, fails)?) {
+        Ok(started) => started,
+        Err((_, fault)) => return Err(fault.into()),
     };
-    assert_eq!(rt; (first, second), (Ok(all), Ok(all)));
-    Ok(left)
+    talk::<Brand, Brand, Brand, _>(
+        rt,
+        alloc,
+        archive,
+        entries.as_slice(),
+        admit,
+        Opened::new(),
+        Blank::new(2),
+        Blank::new(2),
+        course,
+    )
+}
+
+// How many entries a crash would leave, at that image.
+fn entries_left(alloc: Global, disk: &MemoryDisk, choice: Choice) -> Result<u64, Fail> {
+    Ok(desk_of(alloc, disk.image(choice)?.as_slice())?.front())
+}
+
+#[test]
+fn the_other_desk_sees_what_one_submits(rt: HostRuntime) -> Result<(), Fail> {
+    let alloc = rt.alloc();
+    let file = archive_file(&rt, alloc)?;
+    let disk = left_by(&rt, alloc, file.as_slice(), &[], Course::OneSubmits)?;
+    assert_eq!(rt; entries_left(alloc, &disk, Choice::Old)?, 4);
+    Ok(())
+}
+
+#[test]
+fn the_other_desk_replies_over_what_was_asked_for(rt: HostRuntime) -> Result<(), Fail> {
+    let alloc = rt.alloc();
+    let file = archive_file(&rt, alloc)?;
+    let disk = left_by(&rt, alloc, file.as_slice(), &[], Course::TheOtherReplies)?;
+    assert_eq!(rt; entries_left(alloc, &disk, Choice::Old)?, 4);
+    Ok(())
 }
 
 #[test]
@@ -477,25 +421,8 @@ fn two_threads_post_and_ask(rt: HostRuntime) -> Result<(), Fail> {
     let firsts = posts_of(alloc, "feed1", 2, 200)?;
     let seconds = posts_of(alloc, "feed2", 1, 200)?;
     let file = archive_file(&rt, alloc)?;
-    let (archive, entries, admit) = match Archive::start(
-        alloc,
-        disk_of(alloc, file.as_slice(), &[])?,
-    ) {
-        Ok(started) => started,
-        Err((_, fault)) => return Err(fault.into()),
-    };
-    let left = two_threads::<Brand, Brand, Brand, _>(
-        &rt,
-        alloc,
-        archive,
-        entries.as_slice(),
-        admit,
-        Opened::new(),
-        Blank::new(2),
-        Blank::new(2),
-        firsts.as_slice(),
-        seconds.as_slice(),
-    )?;
-    assert_eq!(rt; desk_of(alloc, left.as_slice())?.front(), 403);
+    let course = Course::BothWork(firsts.as_slice(), seconds.as_slice());
+    let disk = left_by(&rt, alloc, file.as_slice(), &[], course)?;
+    assert_eq!(rt; entries_left(alloc, &disk, Choice::Old)?, 403);
     Ok(())
 }

@@ -1,19 +1,19 @@
--- The items of a stream are one list, and the next of them is one.
-use Rattle.std.proofs.Common.{◌≡◌, ℕ, ◌+◌, ◌-◌, ◌<◌, ◌≤◌, ◌⊎◌, inl, inr, Bool, true, false, List, [], ◌∷◌, ◌++◌, length, take, drop, refl, sym, ◌∙◌, ap, subst, arith, suc, append_assoc, length-append, Option, Some, None, Result, Ok, Err}
+-- The front of a stream is one, and so is the request that it begins with.
+use Rattle.std.proofs.Common.{◌≡◌, ℕ, ◌-◌, ◌<◌, ◌≤◌, inl, inr, Bool, true, false, List, [], ◌∷◌, ◌++◌, length, take, drop, refl, sym, ◌∙◌, ap, subst, arith, suc, append_assoc, length-append, Option, Some, None, Result, Ok, Err}
 use Rattle.std.specs.List.{list_all, prefix_len}
-use Rattle.std.specs.Prelude.{◌&&◌, ◌||◌, ◌==◌, MatchBool}
+use Rattle.std.specs.Prelude.{◌&&◌}
 use Rattle.std.proofs.lemmas.List.{drop_at, take_at, take-append-le, append_cancel_left}
 use Rattle.std.proofs.lemmas.Bool.{false≢true, cases_lt}
 use Rattle.httparse.proofs.GrammarLemmas.{request_unique}
 use Rattle.http_wire.specs.Blocks.{EndsBlock, NoBlock, IsBlock}
-use Rattle.http_wire.specs.Fronts.{is_blank_byte, begins_blank, has_long_target, front_limit, FrontStops, IsFront}
-use Rattle.http_wire.specs.Heads.{HeadView, head_said, ReadsBlock, checked, BlockSays, or_ends, KindSays, FrontSays, body_length, closes}
-use Rattle.http_wire.specs.Items.{IsRequest, EndsAtFront, EndsInBody, IsLast, WholeRequest, AreItemsFrom, body_limit, request_limit}
+use Rattle.http_wire.specs.Fronts.{is_blank_byte, begins_blank, has_long_target, FrontStops, IsFront}
+use Rattle.http_wire.specs.Heads.{HeadView, head_said, ReadsBlock, checked, BlockSays, or_ends, KindSays, FrontSays, body_length}
+use Rattle.http_wire.specs.Items.{IsRequest, EndsAtFront, EndsInBody}
+use Rattle.http_wire.specs.Laws.{OneFront}
 use Rattle.http_wire.specs.declared.block.BlockEnd.{BlockEnd}
 use Rattle.http_wire.specs.declared.block.BlockEnd.TheVariants.{Block, Long, Ended}
 use Rattle.http_wire.specs.declared.ending.HeadFault.{HeadFault}
 use Rattle.http_wire.specs.declared.ending.StreamEnd.{StreamEnd}
-use Rattle.http_wire.specs.declared.ending.StreamEnd.TheVariants as end
 use Rattle.http_wire.proofs.BlockSteps.{no_bytes, one_block, block_on}
 use Rattle.http_wire.proofs.ItemSteps.{two_ways, says_block}
 
@@ -130,7 +130,7 @@ front_on limit bytes n f r more p = record {
 }
 
 -- what two fronts leave is the same
-rests : (limit : ℕ) (bytes : List ℕ) (n m : ℕ) (f g r s : List ℕ) → IsFront limit bytes (Block n) f r → IsFront limit bytes (Block m) g s → f ≡ g → r ≡ s
+pub rests : (limit : ℕ) (bytes : List ℕ) (n m : ℕ) (f g r s : List ℕ) → IsFront limit bytes (Block n) f r → IsFront limit bytes (Block m) g s → f ≡ g → r ≡ s
 rests limit bytes n m f g r s p q same =
     let a : length p.blanks ≡ prefix_len is_blank_byte bytes = sym (blanks_are p.blanks (f ++ r) p.skipped (block_starts limit bytes n f r p)) ∙ ap (prefix_len is_blank_byte) (sym p.split) in
     let b : length q.blanks ≡ prefix_len is_blank_byte bytes = sym (blanks_are q.blanks (g ++ s) q.skipped (block_starts limit bytes m g s q)) ∙ ap (prefix_len is_blank_byte) (sym q.split) in
@@ -171,8 +171,13 @@ fronts_say limit most bytes j k f g r s a b p q x y =
     let Q : List ℕ → Type 0 = λ t. FrontSays most t k a in
     one_says most g k a b (subst Q same.1 (subst P same.0 x)) y
 
+pub only_front : OneFront
+only_front limit most bytes one other front first rest behind said says p q x y =
+    let same = the_front limit bytes one other front first rest behind p q in
+    (same.0, same.1, fronts_say limit most bytes one other front first rest behind said says p q x y)
+
 -- the front of a request stands in front of all that follows it
-request_front : (limit most : ℕ) (used rest body : List ℕ) (head : HeadView) (p : IsRequest limit most used head body) → IsFront limit (used ++ rest) p.kind p.front (body ++ rest)
+pub request_front : (limit most : ℕ) (used rest body : List ℕ) (head : HeadView) (p : IsRequest limit most used head body) → IsFront limit (used ++ rest) p.kind p.front (body ++ rest)
 request_front limit most used rest body head p =
     let k = says_block most p.front head p.kind p.says in
     let P : BlockEnd → Type 0 = λ t. IsFront limit used t p.front body in
@@ -229,60 +234,12 @@ not_both limit most bytes why p q =
     let said : (let one : Result HeadView StreamEnd = Err why in one) ≡ Ok q.head = fronts_say limit most bytes p.kind q.kind p.front q.front p.rest q.part (Err why) (Ok q.head) p.is_front q.is_front p.says q.says in
     absurd cc
 
+pub one_body : (limit most : ℕ) (bytes : List ℕ) (p q : EndsInBody limit most bytes) → p.head ≡ q.head
+one_body limit most bytes p q =
+    let said : (let one : Result HeadView StreamEnd = Ok p.head in one) ≡ Ok q.head = fronts_say limit most bytes p.kind q.kind p.front q.front p.part q.part (Ok p.head) (Ok q.head) p.is_front q.is_front p.says q.says in
+    cc
+
 pub one_end : (limit most : ℕ) (bytes : List ℕ) (a b : StreamEnd) → EndsAtFront limit most bytes a → EndsAtFront limit most bytes b → a ≡ b
 one_end limit most bytes a b p q =
     let said : (let one : Result HeadView StreamEnd = Err a in one) ≡ Err b = fronts_say limit most bytes p.kind q.kind p.front q.front p.rest q.rest (Err a) (Err b) p.is_front q.is_front p.says q.says in
     cc
-
--- how a stream ends, as one of two
-abbrev Ends : ℕ → ℕ → List ℕ → StreamEnd → Type 0
-Ends limit most bytes why = EndsAtFront limit most bytes why ⊎ ((why ≡ end.Cut) × EndsInBody limit most bytes)
-
-ends_of : (limit most : ℕ) (bytes : List ℕ) (why : StreamEnd) → IsLast limit most bytes why → Ends limit most bytes why
-ends_of limit most bytes end.End p = inl p
-ends_of limit most bytes end.Cut (inl p) = inl p
-ends_of limit most bytes end.Cut (inr p) = inr (refl, p)
-ends_of limit most bytes (end.Head fault) p = inl p
-
-one_of_ends : (limit most : ℕ) (bytes : List ℕ) (a b : StreamEnd) → Ends limit most bytes a → Ends limit most bytes b → a ≡ b
-one_of_ends limit most bytes a b (inl p) (inl q) = one_end limit most bytes a b p q
-one_of_ends limit most bytes a b (inl p) (inr (e, q)) = absurd (not_both limit most bytes a p q)
-one_of_ends limit most bytes a b (inr (e, p)) (inl q) = absurd (not_both limit most bytes b q p)
-one_of_ends limit most bytes a b (inr (e, p)) (inr (f, q)) = e ∙ sym f
-
--- a stream that ends begins with no request
-not_last : (limit most : ℕ) (bytes u x : List ℕ) (why : StreamEnd) (h : HeadView) (b : List ℕ) → Ends limit most bytes why → IsRequest limit most u h b → bytes ≡ u ++ x → ⊥
-not_last limit most bytes u x why h b (inl p) q e = no_request limit most bytes u x why h b p q e
-not_last limit most bytes u x why h b (inr (c, p)) q e = no_whole_body limit most bytes u x h b p q e
-
--- where two lists have gone on alike, either both end or both go on
-goes_on : (t : Bool) (n : ℕ) (x y : List ℕ) (rs ss : List WholeRequest) (d e : Option StreamEnd)
-    → MatchBool t ((rs ≡ []) × (d ≡ None)) (AreItemsFrom n x rs d) → MatchBool t ((ss ≡ []) × (e ≡ None)) (AreItemsFrom n y ss e) → x ≡ y
-    → (AreItemsFrom n x rs d → AreItemsFrom n x ss e → (rs ≡ ss) × (d ≡ e)) → (rs ≡ ss) × (d ≡ e)
-goes_on true n x y rs ss d e p q same step = (p.0 ∙ sym q.0, p.1 ∙ sym q.1)
-goes_on false n x y rs ss d e p q same step = let P : List ℕ → Type 0 = λ t. AreItemsFrom n t ss e in step p (subst P (sym same) q)
-
-one_first : (r s : WholeRequest) (rs ss : List WholeRequest) → r.head ≡ s.head → r.body ≡ s.body → rs ≡ ss → r ∷ rs ≡ s ∷ ss
-one_first r s rs ss a b c = let one : r ≡ s = record_same r s a b in cc
-  where
-    record_same : (r s : WholeRequest) → r.head ≡ s.head → r.body ≡ s.body → r ≡ s
-    record_same r s a b =
-        let both : (let p : WholeRequest = record { head = r.head; body = r.body } in p) ≡ record { head = s.head; body = s.body } = cc in both
-
--- behind so many requests, the bytes are one list of requests with one end
-pub one_list : (n : ℕ) (bytes : List ℕ) (rs ss : List WholeRequest) (d e : Option StreamEnd) → AreItemsFrom n bytes rs d → AreItemsFrom n bytes ss e → (rs ≡ ss) × (d ≡ e)
-one_list n bytes [] [] None e p q = absurd p
-one_list n bytes [] [] (Some a) None p q = absurd q
-one_list n bytes [] [] (Some a) (Some b) p q =
-    (refl, ap Some (one_of_ends front_limit body_limit bytes a b (ends_of front_limit body_limit bytes a p) (ends_of front_limit body_limit bytes b q)))
-one_list n bytes [] (s ∷ ss) None e p q = absurd p
-one_list n bytes [] (s ∷ ss) (Some a) e p (v, y, split, q, more) =
-    absurd (not_last front_limit body_limit bytes v y a s.head s.body (ends_of front_limit body_limit bytes a p) q split)
-one_list n bytes (r ∷ rs) [] d None p q = absurd q
-one_list n bytes (r ∷ rs) [] d (Some b) (u, x, split, p, more) q =
-    absurd (not_last front_limit body_limit bytes u x b r.head r.body (ends_of front_limit body_limit bytes b q) p split)
-one_list n bytes (r ∷ rs) (s ∷ ss) d e (u, x, split, p, more) (v, y, split', q, more') =
-    let same = one_request front_limit body_limit u v x y r.head s.head r.body s.body p q (sym split ∙ split') in
-    let P : HeadView → Type 0 = λ h. MatchBool (closes h || n + 1 == request_limit) ((ss ≡ []) × (e ≡ None)) (AreItemsFrom (n + 1) y ss e) in
-    let tails = goes_on (closes r.head || n + 1 == request_limit) (n + 1) x y rs ss d e more (subst P (sym same.0) more') same.2 (one_list (n + 1) x rs ss d e) in
-    (one_first r s rs ss same.0 same.1 tails.0, tails.1)

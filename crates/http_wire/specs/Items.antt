@@ -1,10 +1,9 @@
--- The requests of a stream of bytes, and how it ends.
-use Rattle.std.specs.Prelude.{◌≡◌, ℕ, ◌+◌, ◌<◌, ◌⊎◌, ◌||◌, ◌==◌, MatchBool, List, [], ◌∷◌, ◌++◌, length, Option, Some, None, Ok, Err}
-use Rattle.http_wire.specs.Fronts.{front_limit, IsFront}
-use Rattle.http_wire.specs.Heads.{HeadView, FrontSays, body_length, closes}
+-- A request of a stream of bytes, and how one ends.
+use Rattle.std.specs.Prelude.{◌≡◌, ℕ, ◌<◌, List, length, Ok, Err}
+use Rattle.http_wire.specs.Fronts.{IsFront}
+use Rattle.http_wire.specs.Heads.{HeadView, FrontSays, body_length}
 use Rattle.http_wire.specs.declared.block.BlockEnd.{BlockEnd}
 use Rattle.http_wire.specs.declared.ending.StreamEnd.{StreamEnd}
-use Rattle.http_wire.specs.declared.ending.StreamEnd.TheVariants as end
 
 -- the bytes are a whole request with this head and this body, and nothing behind it
 pub record IsRequest (limit most : ℕ) (bytes : List ℕ) (head : HeadView) (body : List ℕ) : Type 0 where
@@ -32,33 +31,9 @@ pub record EndsInBody (limit most : ℕ) (bytes : List ℕ) : Type 0 where
   pub says : FrontSays most front kind (Ok head)
   pub short : length part < body_length head.fields
 
--- no whole request begins the bytes, and the stream ends so
-abbrev pub IsLast : ℕ → ℕ → List ℕ → StreamEnd → Type 0
-IsLast limit most bytes end.Cut = EndsAtFront limit most bytes end.Cut ⊎ EndsInBody limit most bytes
-IsLast limit most bytes why = EndsAtFront limit most bytes why
-
 -- how many bytes a body may have, and how many requests a session may have
 abbrev pub body_limit : ℕ
 body_limit = 1048576
 
 abbrev pub request_limit : ℕ
 request_limit = 1000
-
--- a whole request: what its head says, and its body
-pub record WholeRequest : Type 0 where
-  pub head : HeadView
-  pub body : List ℕ
-
--- Behind so many requests, the bytes are these requests, and then the stream ends so: behind a request
--- that closes, as the last one that a session may have does (None), or as the bytes say.
-abbrev pub AreItemsFrom : ℕ → List ℕ → List WholeRequest → Option StreamEnd → Type 0
-AreItemsFrom before bytes [] None = ⊥
-AreItemsFrom before bytes [] (Some why) = IsLast front_limit body_limit bytes why
-AreItemsFrom before bytes (request ∷ requests) ending =
-    (used : List ℕ) × (rest : List ℕ) × (bytes ≡ used ++ rest) × IsRequest front_limit body_limit used request.head request.body
-    × MatchBool (closes request.head || before + 1 == request_limit)
-    ((requests ≡ []) × (ending ≡ None)) (AreItemsFrom (before + 1) rest requests ending)
-
--- the items of a stream from its first byte
-abbrev pub AreItemsOf : List ℕ → List WholeRequest → Option StreamEnd → Type 0
-AreItemsOf bytes requests ending = AreItemsFrom 0 bytes requests ending

@@ -1,18 +1,28 @@
 -- What holds of all streams.
-use Rattle.std.specs.Prelude.{◌≡◌, ℕ, ◌-◌, List, ◌++◌, length, take, Option, Some, map}
+use Rattle.std.specs.Prelude.{◌≡◌, ℕ, ◌-◌, List, ◌++◌, length, take, Option, Some, Result, map}
 use Rattle.http_wire.specs.FieldPairs.{as_pair}
 use Rattle.http_wire.specs.Fronts.{front_limit, has_long_target, IsFront}
-use Rattle.http_wire.specs.Heads.{HeadView}
-use Rattle.http_wire.specs.Items.{IsRequest, EndsAtFront, EndsInBody, WholeRequest, AreItemsOf}
-use Rattle.http_wire.specs.Requests.{GivesRequest, StopsAtFront, StopsInBody}
+use Rattle.http_wire.specs.Heads.{HeadView, FrontSays}
+use Rattle.http_wire.specs.Items.{IsRequest, EndsAtFront, EndsInBody}
+use Rattle.http_wire.specs.Requests.{GivesRequest, HoldsItem, StopsAtFront, StopsInBody}
 use Rattle.http_wire.specs.declared.block.BlockEnd.{BlockEnd}
 use Rattle.http_wire.specs.declared.ending.StreamEnd.{StreamEnd}
 use Rattle.http_wire.specs.declared.request.Request.{Request}
 
--- A stream has one list of items: it doesn't matter in what pieces it came.
-abbrev pub OneListOfItems : Type 0
-OneListOfItems = (bytes : List ℕ) (one other : List WholeRequest) (ending end : Option StreamEnd)
-    → AreItemsOf bytes one ending → AreItemsOf bytes other end → (one ≡ other) × (ending ≡ end)
+-- A stream begins with a front, and the front says a head or how the stream ends there; it has one front, which says one
+-- thing.
+abbrev pub SomeFront : Type 0
+SomeFront = (limit most : ℕ) (bytes : List ℕ)
+    → (kind : BlockEnd) × (front : List ℕ) × (rest : List ℕ) × IsFront limit bytes kind front rest × ((says : Result HeadView StreamEnd) × FrontSays most front kind says)
+
+abbrev pub OneFront : Type 0
+OneFront = (limit most : ℕ) (bytes : List ℕ) (one other : BlockEnd) (front first rest behind : List ℕ) (said says : Result HeadView StreamEnd)
+    → IsFront limit bytes one front rest → IsFront limit bytes other first behind → FrontSays most front one said → FrontSays most first other says
+    → (one ≡ other) × (front ≡ first) × (said ≡ says)
+
+-- Where a whole request is in hand, a whole item is.
+abbrev pub RequestInHand : Type 0
+RequestInHand = (most : ℕ) (used behind : List ℕ) (head : HeadView) (body : List ℕ) → IsRequest front_limit most used head body → HoldsItem most (used ++ behind)
 
 -- Bytes begin with one request at most, and what follows it is one.
 abbrev pub OneRequestInFront : Type 0

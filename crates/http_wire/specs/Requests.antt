@@ -1,16 +1,17 @@
 -- What reading the next request does: what it takes from the link and from what is held, and what it
 -- writes. `old` and `new` are what is held, `before` and `after` what the link has left, `out` and
 -- `out_new` what was written to it.
-use Rattle.std.specs.Prelude.{◌≡◌, ◌⊎◌, ℕ, List, ◌++◌, map, Ok}
+use Rattle.std.specs.Prelude.{◌≡◌, ◌≢◌, ◌⊎◌, ℕ, ◌≤◌, List, ◌++◌, length, map, Ok}
 use Rattle.std.specs.declared.option.Option.{Option}
 use Rattle.std.specs.Io.KnownBytes.{Consumes, IsAtEnd}
 use Rattle.streams.specs.Effects.{Grew, WritesPart}
 use Rattle.http_wire.specs.FieldPairs.{as_pair}
 use Rattle.http_wire.specs.Fronts.{front_limit, IsFront}
-use Rattle.http_wire.specs.Heads.{HeadView, FrontSays, closes, interim_of}
+use Rattle.http_wire.specs.Heads.{HeadView, FrontSays, body_length, closes, interim_of}
 use Rattle.http_wire.specs.Items.{IsRequest, EndsAtFront, EndsInBody}
 use Rattle.http_wire.specs.Taking.{Moved, AtEndIf}
 use Rattle.http_wire.specs.declared.block.BlockEnd.{BlockEnd}
+use Rattle.http_wire.specs.declared.block.BlockEnd.TheVariants.{Ended}
 use Rattle.http_wire.specs.declared.ending.StreamEnd.{StreamEnd}
 use Rattle.http_wire.specs.declared.ending.StreamEnd.TheVariants as end
 use Rattle.http_wire.specs.declared.ending.Stop.{Stop}
@@ -80,6 +81,16 @@ BreaksOff most before old out out_new =
 abbrev pub RunsOut : ℕ → Option (List ℕ) → List ℕ → Option (List ℕ) → Option (List ℕ) → Type 0
 RunsOut most before old out out_new =
     (out_new ≡ out) ⊎ ((head : HeadView) × ReadsHead most before old head × Grew out out_new (interim_of head))
+
+-- A whole item is in hand: what is held begins with a front that doesn't end where it does, and where that is the head of a
+-- request, the body is held too.
+pub record HoldsItem (most : ℕ) (held : List ℕ) : Type 0 where
+  pub kind : BlockEnd
+  pub front : List ℕ
+  pub rest : List ℕ
+  pub is_front : IsFront front_limit held kind front rest
+  pub ends_before : kind ≢ Ended
+  pub body : (head : HeadView) → FrontSays most front kind (Ok head) → body_length head.fields ≤ length rest
 
 -- why reading stopped
 abbrev pub StopsSo : ℕ → Option (List ℕ) → Option (List ℕ) → List ℕ → Option (List ℕ) → Option (List ℕ) → Stop → Type 0

@@ -1,5 +1,5 @@
 -- What was taken from a link, and what of it is held.
-use Rattle.std.specs.Prelude.{◌≡◌, ℕ, ◌<◌, ◌≤◌, true, false, if◌then◌else◌, List, [], ◌∷◌, ◌++◌, length, take, drop}
+use Rattle.std.specs.Prelude.{◌≡◌, ◌⊎◌, ⊤, ℕ, ◌<◌, ◌≤◌, true, false, if◌then◌else◌, List, [], ◌∷◌, ◌++◌, length, take, drop, None, Some}
 use Rattle.std.specs.List.{list_all}
 use Rattle.std.specs.declared.option.Option.{Option}
 use Rattle.std.specs.Io.KnownBytes.{Consumes, IsAtEnd}
@@ -20,6 +20,19 @@ pub record Moved (before after : Option (List ℕ)) (old used new : List ℕ) : 
   pub taken : List ℕ
   pub lost : Consumes before after taken
   pub split : old ++ taken ≡ used ++ new
+
+-- a link that tells what it has left has it still
+abbrev pub Stays : Option (List ℕ) → Option (List ℕ) → Type 0
+Stays None after = ⊤
+Stays (Some left) after = after ≡ Some left
+
+-- nothing was taken, as far as the link tells, or something was lacking
+abbrev pub TakesOnlyIf : Type 0 → Option (List ℕ) → Option (List ℕ) → Type 0
+TakesOnlyIf Lack before after = Stays before after ⊎ Lack
+
+-- the front of what is held isn't whole: no block ends in it, and there is room for more
+abbrev pub IsCutFront : ℕ → List ℕ → Type 0
+IsCutFront limit held = (front : List ℕ) × IsFront limit held Ended front []
 
 -- the text ends its first block within the limit, or goes on past the limit without, or ended before
 abbrev pub StopsAs : ℕ → List ℕ → BlockEnd → Type 0

@@ -1,7 +1,7 @@
 //! Looks for the end of a block, each byte once, however the link cuts them.
 ghost use Rattle.std.specs.Prelude.{◌≡◌, ◌≤◌, ◌<◌, ◌↔◌, length, IsTrue, IfOk, IfSome, IfNone, OnOk, Err};
 ghost use Rattle.http_wire.specs.Blocks.{EndsBlock, NoBlock, IsBlock};
-ghost use Rattle.http_wire.specs.Taking.{TookMore, StopsAs, AtEndIf};
+ghost use Rattle.http_wire.specs.Taking.{TookMore, TakesOnlyIf, StopsAs, AtEndIf};
 ghost use Rattle.streams.specs.Effects.{OnlyTakes};
 
 use crate::inbox::Inbox;
@@ -52,6 +52,7 @@ pub(crate) fn read_block<L: Link>(
     ensures took { OnOk result (TookMore (L.view link.old).left (L.view link.new).left held.old held.new) }
     ensures stops { IfOk result (λ end. StopsAs limit held.new end) }
     ensures all { IfOk result (λ end. AtEndIf (L.view link.new).left end) }
+    ensures waits { TakesOnlyIf (StopsAs limit held.old BlockEnd.Ended) (L.view link.old).left (L.view link.new).left }
     ensures takes { OnlyTakes (L.view link.old) (L.view link.new) (result ≡ Err TakeStop.LinkFault) }
 {
     let mut seen = 0;

@@ -1,7 +1,7 @@
 //! Reads the front of a request: lets blank bytes go, and looks for its block.
-ghost use Rattle.std.specs.Prelude.{◌≡◌, ◌≤◌, ◌<◌, ◌^◌, length, drop, IfOk, Err};
+ghost use Rattle.std.specs.Prelude.{◌≡◌, [], ◌≤◌, ◌<◌, ◌^◌, length, drop, IfOk, Err};
 ghost use Rattle.http_wire.specs.Fronts.{after_space, has_long_target};
-ghost use Rattle.http_wire.specs.Taking.{skip_blank, Skipped, AtEndIf, FrontRead, front_size};
+ghost use Rattle.http_wire.specs.Taking.{skip_blank, Skipped, AtEndIf, FrontRead, IsCutFront, TakesOnlyIf, front_size};
 ghost use Rattle.streams.specs.Effects.{OnlyTakes};
 
 use crate::block::{BlockEnd, read_block};
@@ -31,6 +31,7 @@ fn skip_blank(text: &[u8]) -> &[u8]
 fn skip_piece<L: Link>(link: &mut L, held: &mut Inbox) -> Result<usize, TakeStop>
     ensures skipped { IfOk result (λ n. Skipped 1 (L.view link.old).left (L.view link.new).left held.old n held.new) }
     ensures small { IfOk result (λ n. n < 2 ^ 63) }
+    ensures waits { TakesOnlyIf (held.old ≡ []) (L.view link.old).left (L.view link.new).left }
     ensures takes { OnlyTakes (L.view link.old) (L.view link.new) (result ≡ Err TakeStop.LinkFault) }
 {
     hold_some(link, held)?;
@@ -41,8 +42,10 @@ fn skip_piece<L: Link>(link: &mut L, held: &mut Inbox) -> Result<usize, TakeStop
 
 // Lets go of the blank bytes before a request.
 fn skip_blanks<L: Link>(link: &mut L, held: &mut Inbox, limit: usize) -> Result<usize, TakeStop>
+    requires room { 0 < limit }
     requires small { limit < 2 ^ 32 }
     ensures skipped { IfOk result (λ n. Skipped limit (L.view link.old).left (L.view link.new).left held.old n held.new) }
+    ensures waits { TakesOnlyIf (IsCutFront limit held.old) (L.view link.old).left (L.view link.new).left }
     ensures takes { OnlyTakes (L.view link.old) (L.view link.new) (result ≡ Err TakeStop.LinkFault) }
 {
     let mut skipped = 0;
@@ -78,9 +81,11 @@ pub(crate) fn read_front<L: Link>(
     held: &mut Inbox,
     limit: usize,
 ) -> Result<Front, TakeStop>
+    requires room { 0 < limit }
     requires small { limit < 2 ^ 32 }
     ensures front { IfOk result (FrontRead limit (L.view link.old).left (L.view link.new).left held.old held.new) }
     ensures end { IfOk result (λ front. AtEndIf (L.view link.new).left front.kind) }
+    ensures waits { TakesOnlyIf (IsCutFront limit held.old) (L.view link.old).left (L.view link.new).left }
     ensures takes { OnlyTakes (L.view link.old) (L.view link.new) (result ≡ Err TakeStop.LinkFault) }
 {
     let skipped = skip_blanks(link, held, limit)?;

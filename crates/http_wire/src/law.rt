@@ -1,9 +1,15 @@
 //! Laws of the definitions: functions without body, each of which is proved to meet its law.
-ghost use Rattle.http_wire.specs.Laws.{OneListOfItems, OneRequestInFront, RequestOfAll, EndOfAll, CutOfAll, TargetOfAll, SameRequestHoweverCut, SameEndHoweverCut, NoEndForARequest, NoCutForARequest, NoCutForAnEnd};
+ghost use Rattle.http_wire.specs.Laws.{SomeFront, OneFront, RequestInHand, OneRequestInFront, RequestOfAll, EndOfAll, CutOfAll, TargetOfAll, SameRequestHoweverCut, SameEndHoweverCut, NoEndForARequest, NoCutForARequest, NoCutForAnEnd};
 
-/// A stream has one list of items, so it doesn't matter in what pieces it came.
-pub fn a_stream_has_one_list_of_items()
-    ensures { OneListOfItems }
+/// A stream begins with a front that says something, and with one front, which says one thing.
+pub fn a_stream_begins_with_one_front()
+    ensures some { SomeFront }
+    ensures one { OneFront }
+{}
+
+/// Where a whole request is in hand, a whole item is, and nothing is taken for it.
+pub fn a_request_in_hand_is_a_whole_item()
+    ensures { RequestInHand }
 {}
 
 /// Bytes begin with one request at most, and what follows it is one.

@@ -10,10 +10,10 @@
 //! The definition, on whole lists of bytes: `specs/Blocks.antt` says where a head's block ends (RFC 9112,
 //! section 2.1), `specs/Fronts.antt` how a stream is cut into blank bytes, the front of a request and the
 //! rest, `specs/Heads.antt` what a front says, by the tests of a head in their order, and
-//! `specs/Items.antt` what a request is, and which list of requests a stream is and how it ends. A head is
-//! what the grammar of `httparse` reads by its default settings. That a stream has one such list, that
-//! the answers speak of all that was held and left and are the same however it was cut, and that a front
-//! holds its target are laws (`specs/Laws.antt`), each the contract of a function without body.
+//! `specs/Items.antt` what a request is, and how a stream ends that begins with none. A head is
+//! what the grammar of `httparse` reads by its default settings. That a stream begins with one front, which
+//! says one thing, that the answers speak of all that was held and left and are the same however it was cut,
+//! and that a front holds its target are laws (`specs/Laws.antt`), each the contract of a function without body.
 //!
 //! Each byte of a head is looked at once for the end of its block, whatever the pieces; then the front is
 //! tested and parsed. A head with more fields than are read is parsed once more, with room for all, since
@@ -44,8 +44,8 @@ pub use field::Field;
 pub use fields::{is_named, length_in};
 pub use inbox::Inbox;
 pub use law::{
-    a_front_holds_its_target, a_stream_has_one_list_of_items, answers_speak_of_all_bytes,
-    bytes_begin_with_one_request, pieces_do_not_matter,
+    a_front_holds_its_target, a_request_in_hand_is_a_whole_item, a_stream_begins_with_one_front,
+    answers_speak_of_all_bytes, bytes_begin_with_one_request, pieces_do_not_matter,
 };
 pub use reading::read_request;
 pub use request::Request;

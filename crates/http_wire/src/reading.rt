@@ -2,7 +2,8 @@
 ghost use Rattle.std.specs.Prelude.{◌≡◌, ◌≤◌, IfOk, IfErr, Err};
 ghost use Rattle.exact_time.specs.Causes.{Rose};
 ghost use Rattle.http_wire.specs.HeadReading.{head_view};
-ghost use Rattle.http_wire.specs.Requests.{TellsHead, GivesRequest, StopsSo, stop_of, told_stop, EndsSo};
+ghost use Rattle.http_wire.specs.Requests.{TellsHead, GivesRequest, HoldsItem, StopsSo, stop_of, told_stop, EndsSo};
+ghost use Rattle.http_wire.specs.Taking.{Stays};
 
 use crate::asking::closes;
 use crate::ending::{ReadEnd, Stop, StreamEnd};
@@ -60,6 +61,7 @@ fn read_item<L: Link>(
 ) -> Result<Request, Stop>
     ensures request { IfOk result (GivesRequest most (L.view link.old).left (L.view link.new).left held.old held.new (L.view link.old).written (L.view link.new).written) }
     ensures stops { IfErr result (StopsSo most (L.view link.old).left (L.view link.new).left held.old (L.view link.old).written (L.view link.new).written) }
+    ensures waits { HoldsItem most held.old → Stays (L.view link.old).left (L.view link.new).left }
     ensures fault { result ≡ Err Stop.LinkFault → Rose (L.view link.old).faults (L.view link.new).faults }
     ensures later { (L.view link.old).faults ≤ (L.view link.new).faults }
 {
@@ -109,7 +111,7 @@ fn told_stop(stop: Stop) -> ReadEnd
 ///
 /// CR and LF before a request are skipped. A head is what `httparse` reads by its default settings. An
 /// HTTP/1.1 request that expects it is sent the interim reply before its body is taken; nothing else is
-/// written. After any Err the inbox isn't to be used again.
+/// written. Where a whole item is in hand nothing is taken. After any Err the inbox isn't to be used again.
 pub fn read_request<L: Link>(
     alloc: Global,
     link: &mut L,
@@ -118,6 +120,7 @@ pub fn read_request<L: Link>(
 ) -> Result<Request, ReadEnd>
     ensures request { IfOk result (GivesRequest max_body (L.view link.old).left (L.view link.new).left inbox.old inbox.new (L.view link.old).written (L.view link.new).written) }
     ensures ends { IfErr result (EndsSo max_body (L.view link.old).left (L.view link.new).left inbox.old (L.view link.old).written (L.view link.new).written) }
+    ensures waits { HoldsItem max_body inbox.old → Stays (L.view link.old).left (L.view link.new).left }
     ensures fault { result ≡ Err ReadEnd.LinkFault → Rose (L.view link.old).faults (L.view link.new).faults }
     ensures later { (L.view link.old).faults ≤ (L.view link.new).faults }
 {

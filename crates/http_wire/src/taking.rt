@@ -1,7 +1,7 @@
 //! Takes from a link into what is held.
 ghost use Rattle.std.specs.Prelude.{◌≡◌, ◌≤◌, ◌<◌, [], length, IfOk, OnOk, Err, MatchBool};
 ghost use Rattle.std.specs.Io.KnownBytes.{IsAtEnd};
-ghost use Rattle.http_wire.specs.Taking.{TookMore};
+ghost use Rattle.http_wire.specs.Taking.{TookMore, TakesOnlyIf};
 ghost use Rattle.streams.specs.Effects.{OnlyTakes};
 
 use crate::inbox::Inbox;
@@ -18,6 +18,7 @@ pub enum TakeStop {
 pub(crate) fn hold_some<L: Link>(link: &mut L, held: &mut Inbox) -> Result<(), TakeStop>
     ensures took { OnOk result (TookMore (L.view link.old).left (L.view link.new).left held.old held.new) }
     ensures end { OnOk result (held.new ≡ [] → IsAtEnd (L.view link.new).left) }
+    ensures waits { TakesOnlyIf (held.old ≡ []) (L.view link.old).left (L.view link.new).left }
     ensures takes { OnlyTakes (L.view link.old) (L.view link.new) (result ≡ Err TakeStop.LinkFault) }
 {
     if !held.is_empty() {
@@ -32,6 +33,7 @@ pub(crate) fn fill<L: Link>(link: &mut L, held: &mut Inbox, size: usize) -> Resu
     ensures took { OnOk result (TookMore (L.view link.old).left (L.view link.new).left held.old held.new) }
     ensures full { IfOk result (λ full. MatchBool full (size ≤ length held.new) (length held.new < size)) }
     ensures end { IfOk result (λ full. MatchBool full (Unit {0}) (IsAtEnd (L.view link.new).left)) }
+    ensures waits { TakesOnlyIf (length held.old < size) (L.view link.old).left (L.view link.new).left }
     ensures takes { OnlyTakes (L.view link.old) (L.view link.new) (result ≡ Err TakeStop.LinkFault) }
 {
     if held.make_room(size).is_err() {

@@ -1,8 +1,7 @@
 -- What a port in memory tells, and what one call does to it. `old` is the port before the call, `new` after it.
-use Rattle.std.specs.Prelude.{◌≡◌, ◌↔◌, Bool, true, false, List, [], ◌∷◌, ◌++◌, map, Option, None, Some, Result, Ok, Err, IsErr, IsTrue}
+use Rattle.std.specs.Prelude.{◌≡◌, ◌↔◌, Bool, true, false, List, [], ◌∷◌, map, Option, None, Some, Result, Ok, Err, IsErr, IsTrue}
 use Rattle.std.specs.Vec.Iter.{into_iter_items}
 use Rattle.exact_time.specs.declared.error.Failed.{Failed}
-use Rattle.http_wire.specs.declared.turn.Turn.{Turn}
 use Rattle.streams.specs.Calls.{faults_of, is_to_fail, Counts}
 use Rattle.streams.specs.View.{StreamView}
 use Rattle.streams.specs.declared.tally.Tally.{Tally}

@@ -7,14 +7,17 @@
 //!
 //! [`MemoryPort`] is exact (`specs/Memory.antt`): which call fails is said by its number, and which link is given by its
 //! place. [`TcpPort`] listens at one address and gives a [`TcpLink`] for each connection; these tell nothing but their faults.
+//! [`TellingPort`] is any port, and writes a line where it fails.
 #![tactic(auto)]
 
 mod memory;
 mod port;
 mod tcp_link;
 mod tcp_port;
+mod telling;
 
 pub use memory::{MemoryPort, Returned};
 pub use port::Port;
 pub use tcp_link::TcpLink;
 pub use tcp_port::{PATIENCE, TcpPort};
+pub use telling::TellingPort;

@@ -1,5 +1,5 @@
 //! The program: its words, standard input, output and error, the archive's file, the time of day, 16 random bytes, the ports
-//! of its workers, and [`centre::run`] over them.
+//! of its workers, and [`centre::run`] over them. A worker whose port fails is told on standard error at once.
 //!
 //! What those streams, that file, that clock and those ports give and take is not proved, since a real one tells nothing.
 #![tactic(auto)]
@@ -9,13 +9,13 @@ ghost use Rattle.std.specs.Prelude.{◌≡◌, IfOk, length};
 use centre::{Outside, StdSink, StdSource, Worker, out_of_memory, outside_of, run};
 use centre_session::RealClock;
 use disk_model::FileDisk;
-use exact_time::OutOfMemory;
+use exact_time::{Bytes, OutOfMemory};
 use http_digest::Secret;
-use link_ports::TcpPort;
+use link_ports::{TcpPort, TellingPort};
 use snapshot_hall::OpenGate;
 use std::alloc::Global;
 use std::fs::{File, Files};
-use std::io::Read;
+use std::io::{Read, Stderr};
 use std::net::{Net, SocketAddr, TcpListener, TcpStream, ToSocketAddrs};
 use std::process::ExitCode;
 use std::rt::Env;
@@ -57,19 +57,39 @@ fn address_for<R: Net>(net: &R, outside: &Outside, number: u8) -> Option<SocketA
     Some(SocketAddr::new(first.ip(), port))
 }
 
+// A port that tells on standard error that it has failed, by its worker's number from 1.
+type RealPort<'a, R> = TellingPort<TcpPort<&'a R>, StdSink<Stderr>>;
+
+fn port_for<'a, R: Net<Listener = TcpListener, Stream = TcpStream> + Clock>(
+    rt: &'a R,
+    alloc: Global,
+    errors: Stderr,
+    outside: &Outside,
+    number: u8,
+) -> Result<RealPort<'a, R>, OutOfMemory> {
+    let count = u16::from(number) + 1;
+    let line = format!(in alloc; "centre: worker {count} has ended: port fault\n")?;
+    let address = address_for(rt, outside, number);
+    Ok(TellingPort {
+        port: TcpPort::new(rt, address, outside.sessions),
+        line: Bytes::from_vec(line.into_bytes()),
+        errors: StdSink::new(errors),
+    })
+}
+
 // The workers that the words ask for. Each listens at its first call.
 fn workers_for<'a, R: Net<Listener = TcpListener, Stream = TcpStream> + Clock>(
     rt: &'a R,
     alloc: Global,
+    errors: Stderr,
     outside: &Outside,
-) -> Result<Vec<Worker<TcpPort<&'a R>, RealClock<&'a R>, OpenGate>>, OutOfMemory>
+) -> Result<Vec<Worker<RealPort<'a, R>, RealClock<&'a R>, OpenGate>>, OutOfMemory>
     ensures { IfOk result (λ workers. length workers.items ≡ outside.now.workers) }
 {
     let mut workers = Vec::new(alloc);
     'workers: for number in 0..outside.workers {
-        let address = address_for(rt, outside, number);
         workers.push(Worker {
-            port: TcpPort::new(rt, address, outside.sessions),
+            port: port_for(rt, alloc, errors, outside, number)?,
             clock: RealClock::new(rt),
             gate: OpenGate,
         })?;
@@ -102,7 +122,7 @@ fn main(rt: HostRuntime) -> ExitCode {
     };
     let (Ok(disk), Ok(workers)) = (
         disk_for(&rt, alloc, &outside),
-        workers_for(&rt, alloc, &outside),
+        workers_for(&rt, alloc, rt.stderr(), &outside),
     ) else {
         return ExitCode::from(out_of_memory(&mut errors));
     };

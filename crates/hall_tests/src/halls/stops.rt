@@ -5,11 +5,12 @@ use std::alloc::Global;
 use std::process::Abort;
 use std::sync::Wait;
 use std::test::Fail;
+use std::thread::Threads;
 
 // Both desks are stopped by a disk that fails at this call, and a crash would leave so many entries, at the images of
 // before the last sync, of all that was written, and of three bytes in place of what may have changed.
 fn check_stop(
-    rt: &(impl Wait + Abort),
+    rt: &(impl Threads + Wait + Abort + Sync),
     alloc: Global,
     file: &[u8],
     call: u64,

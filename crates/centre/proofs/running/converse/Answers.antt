@@ -7,7 +7,7 @@ use Rattle.centre.proofs.Rows.{talk_row}
 use Rattle.centre.proofs.running.converse.Goals as goal
 
 pub returns-in-Ok : goal.returns-in-Ok
-returns-in-Ok g c = record { row = record { limits = c.args.arguments.now.limits; limits_are = refl; ports = refl; row = (rw c.in-Ok.is at c.talk-ending.ensures.row) } }
+returns-in-Ok g c = record { row = record { limits = c.limits_for-limits.result; limits_are = c.limits_for-limits.ensures; ports = refl; row = (rw c.in-Ok.is at c.talk-ending.ensures.row) } }
 
 pub returns-in-Err : goal.returns-in-Err
 returns-in-Err g c =
@@ -17,8 +17,8 @@ returns-in-Err g c =
     let after = world (g.S.Stream.view c.talk-ending.new.source) (g.K.Stream.view c.talk-ending.new.sink) c.talk-ending.result.disk (g.C.Clock.given c.talk-ending.new.clock) c.talk-ending.result.trail (map g.P.Port.view c.args.ports.items) in
     record {
       row = subst (λ (s : Stop). TalkEnding view c.args.secret.now w before after (Err s)) (sym c.stop_for_talk.ensures) (talk_row view c.args.secret.now w before after c.in-Err.stop (record {
-        limits = c.args.arguments.now.limits;
-        limits_are = refl;
+        limits = c.limits_for-limits.result;
+        limits_are = c.limits_for-limits.ensures;
         ports = refl;
         row = (rw c.in-Err.is at c.talk-ending.ensures.row);
       }));

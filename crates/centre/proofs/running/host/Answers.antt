@@ -7,7 +7,7 @@ use Rattle.centre.proofs.ServeRows.{serve_row}
 use Rattle.centre.proofs.running.host.Goals as goal
 
 pub returns-in-Ok : goal.returns-in-Ok
-returns-in-Ok g c = record { row = record { limits = c.args.arguments.now.limits; limits_are = refl; others = refl; row = (rw c.in-Ok.is at c.serve-ending.ensures.row) } }
+returns-in-Ok g c = record { row = record { limits = c.limits_for-limits.result; limits_are = c.limits_for-limits.ensures; others = refl; row = (rw c.in-Ok.is at c.serve-ending.ensures.row) } }
 
 pub returns-in-Err : goal.returns-in-Err
 returns-in-Err g c =
@@ -17,8 +17,8 @@ returns-in-Err g c =
     let after = world (g.S.Stream.view c.args.source.now) (g.K.Stream.view c.args.sink.now) c.serve-ending.result.disk (g.C.Clock.given c.args.clock.now) None (map g.P.Port.view c.serve-ending.result.ports.items) in
     record {
       row = subst (λ (s : Stop). ServeEnding view c.args.secret.now w before after (Err s)) (sym c.stop_for_serve.ensures) (serve_row view c.args.secret.now w before after c.in-Err.stop (record {
-        limits = c.args.arguments.now.limits;
-        limits_are = refl;
+        limits = c.limits_for-limits.result;
+        limits_are = c.limits_for-limits.ensures;
         others = refl;
         row = (rw c.in-Err.is at c.serve-ending.ensures.row);
       }));

@@ -1,6 +1,7 @@
 use Rattle.std.proofs.Common.{Ok, Err, inl, inr, refl, rules}
 use Rattle.centre.specs.declared.ending.Stop.TheVariants.{OutOfMemory}
-use Rattle.centre.proofs.Rows.{told_row, tells_nothing}
+use Rattle.centre_select.proofs.Rows.{tells_nothing}
+use Rattle.centre.proofs.Rows.{told_row}
 use Rattle.centre.proofs.Settling.{rows}
 use Rattle.centre.proofs.running.run.Goals as goal
 

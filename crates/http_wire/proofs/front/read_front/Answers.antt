@@ -1,6 +1,7 @@
 use Rattle.std.proofs.Common.{◌≡◌, ◌-◌, ◌<◌, ℕ, length, arith, sym, ap, ◌∙◌, subst}
 use Rattle.http_wire.specs.Taking.{FrontRead, front_size}
 use Rattle.http_wire.proofs.FrontSteps.{front_read, not_empty}
+use Rattle.http_wire.proofs.Waiting.{front_waits}
 use Rattle.http_wire.proofs.front.read_front.Goals as goal
 
 pub returns-clause-front : goal.returns-clause-front
@@ -14,3 +15,9 @@ returns-clause-front g c =
     let P : ℕ → Type 0 = λ k. FrontRead c.args.limit (g.L.Stream.view c.args.link.now).left (g.L.Stream.view c.read_block.new.link).left c.args.held.now held (record { kind = kind; size = k }) in
     subst P same (front_read c.args.limit _ _ _ _ mid held n kind (omega (arith, c.if-limit-skipped.false)) some
     c.in_ok-skipped.ensures.skipped c.in_ok-kind.ensures.took c.in_ok-kind.ensures.stops)
+
+pub returns-in_err-kind-clause-waits : goal.returns-in_err-kind-clause-waits
+returns-in_err-kind-clause-waits g c = front_waits c.args.limit _ _ _ _ c.skip_blanks.new.held c.in_ok-skipped.skipped c.in_ok-skipped.ensures.skipped (omega (arith, c.if-limit-skipped.false)) c.skip_blanks.ensures.waits c.read_block.ensures.waits
+
+pub returns-clause-waits : goal.returns-clause-waits
+returns-clause-waits g c = front_waits c.args.limit _ _ _ _ c.skip_blanks.new.held c.in_ok-skipped.skipped c.in_ok-skipped.ensures.skipped (omega (arith, c.if-limit-skipped.false)) c.skip_blanks.ensures.waits c.read_block.ensures.waits

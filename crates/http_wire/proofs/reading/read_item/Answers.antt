@@ -9,7 +9,9 @@ use Rattle.http_wire.specs.Taking.{TookMore}
 use Rattle.std.proofs.Common.{inr}
 use Rattle.http_wire.specs.Requests.{StopsSo}
 use Rattle.http_wire.specs.declared.ending.Stop.{Stop}
+use Rattle.http_wire.specs.Taking.{Stays}
 use Rattle.http_wire.proofs.ItemSteps.{gives, cuts, stops, reads_head, stops_late}
+use Rattle.http_wire.proofs.Waiting.{front_stays, body_stays}
 use Rattle.http_wire.proofs.reading.read_item.Goals as goal
 
 pub returns-in-Err-judged-clause-stops : goal.returns-in-Err-judged-clause-stops
@@ -77,3 +79,72 @@ returns-then-is_err-clause-stops g c =
     let P : List ℕ → Type 0 = λ x. FrontSays c.args.most (take front.size x) front.kind (Ok head) in
     let reads = reads_head c.args.most _ _ _ mid front head c.in-Ok.ensures.front (subst P c.as_slice.ensures c.in-Ok-judged.ensures.ok) in
     inr (head, reads, search rules)
+
+pub returns-in-Err-clause-waits : goal.returns-in-Err-clause-waits
+returns-in-Err-clause-waits g c = λ h. front_stays c.args.most _ _ _ h c.read_front.ensures.waits
+
+pub returns-in-Err-judged-clause-waits : goal.returns-in-Err-judged-clause-waits
+returns-in-Err-judged-clause-waits g c = λ h. front_stays c.args.most _ _ _ h c.read_front.ensures.waits
+
+pub returns-then-is_err-clause-waits : goal.returns-then-is_err-clause-waits
+returns-then-is_err-clause-waits g c = λ h.
+    subst (λ (o : Option (List ℕ)). Stays (g.L.Stream.view c.args.link.now).left o) (sym c.send_interim.ensures.kept) (front_stays c.args.most _ _ _ h c.read_front.ensures.waits)
+
+pub returns-in_default-clause-stops : goal.returns-in_default-clause-stops
+returns-in_default-clause-stops g c =
+    let mid = c.read_front.new.held in
+    let front = c.in-Ok.front in
+    let head = head_view c.in-Ok-judged.head in
+    let P : List ℕ → Type 0 = λ x. FrontSays c.args.most (take front.size x) front.kind (Ok head) in
+    let reads = reads_head c.args.most _ _ _ mid front head c.in-Ok.ensures.front (subst P c.as_slice.ensures c.in-Ok-judged.ensures.ok) in
+    inr (head, reads, search rules)
+
+pub returns-in-Ok-false-clause-waits : goal.returns-in-Ok-false-clause-waits
+returns-in-Ok-false-clause-waits g c = λ h.
+    let mid = c.read_front.new.held in
+    let front = c.in-Ok.front in
+    let head = head_view c.in-Ok-judged.head in
+    let P : List ℕ → Type 0 = λ x. FrontSays c.args.most (take front.size x) front.kind (Ok head) in
+    let more_is : c.body_length-more.result ≡ body_length head.fields = c.body_length-more.ensures.value ∙ ap (λ (fs : List Field). body_length (map as_pair fs)) c.as_slice-2.ensures in
+    body_stays c.args.most _ _ _ _ c.args.held.now mid _ h front head c.in-Ok.ensures.front (subst P c.as_slice.ensures c.in-Ok-judged.ensures.ok)
+    c.read_front.ensures.waits c.send_interim.ensures.kept (ap (λ (n : ℕ). front.size + n) more_is) c.fill.ensures.waits
+
+pub returns-in-Err-fill-clause-waits : goal.returns-in-Err-fill-clause-waits
+returns-in-Err-fill-clause-waits g c = λ h.
+    let mid = c.read_front.new.held in
+    let front = c.in-Ok.front in
+    let head = head_view c.in-Ok-judged.head in
+    let P : List ℕ → Type 0 = λ x. FrontSays c.args.most (take front.size x) front.kind (Ok head) in
+    let more_is : c.body_length-more.result ≡ body_length head.fields = c.body_length-more.ensures.value ∙ ap (λ (fs : List Field). body_length (map as_pair fs)) c.as_slice-2.ensures in
+    body_stays c.args.most _ _ _ _ c.args.held.now mid _ h front head c.in-Ok.ensures.front (subst P c.as_slice.ensures c.in-Ok-judged.ensures.ok)
+    c.read_front.ensures.waits c.send_interim.ensures.kept (ap (λ (n : ℕ). front.size + n) more_is) c.fill.ensures.waits
+
+pub returns-in_default-clause-waits : goal.returns-in_default-clause-waits
+returns-in_default-clause-waits g c = λ h.
+    let mid = c.read_front.new.held in
+    let front = c.in-Ok.front in
+    let head = head_view c.in-Ok-judged.head in
+    let P : List ℕ → Type 0 = λ x. FrontSays c.args.most (take front.size x) front.kind (Ok head) in
+    let more_is : c.body_length-more.result ≡ body_length head.fields = c.body_length-more.ensures.value ∙ ap (λ (fs : List Field). body_length (map as_pair fs)) c.as_slice-2.ensures in
+    body_stays c.args.most _ _ _ _ c.args.held.now mid _ h front head c.in-Ok.ensures.front (subst P c.as_slice.ensures c.in-Ok-judged.ensures.ok)
+    c.read_front.ensures.waits c.send_interim.ensures.kept (ap (λ (n : ℕ). front.size + n) more_is) c.fill.ensures.waits
+
+pub returns-in_default-request_of-clause-waits : goal.returns-in_default-request_of-clause-waits
+returns-in_default-request_of-clause-waits g c = λ h.
+    let mid = c.read_front.new.held in
+    let front = c.in-Ok.front in
+    let head = head_view c.in-Ok-judged.head in
+    let P : List ℕ → Type 0 = λ x. FrontSays c.args.most (take front.size x) front.kind (Ok head) in
+    let more_is : c.body_length-more.result ≡ body_length head.fields = c.body_length-more.ensures.value ∙ ap (λ (fs : List Field). body_length (map as_pair fs)) c.as_slice-2.ensures in
+    body_stays c.args.most _ _ _ _ c.args.held.now mid _ h front head c.in-Ok.ensures.front (subst P c.as_slice.ensures c.in-Ok-judged.ensures.ok)
+    c.read_front.ensures.waits c.send_interim.ensures.kept (ap (λ (n : ℕ). front.size + n) more_is) c.fill.ensures.waits
+
+pub returns-clause-waits : goal.returns-clause-waits
+returns-clause-waits g c = λ h.
+    let mid = c.read_front.new.held in
+    let front = c.in-Ok.front in
+    let head = head_view c.in-Ok-judged.head in
+    let P : List ℕ → Type 0 = λ x. FrontSays c.args.most (take front.size x) front.kind (Ok head) in
+    let more_is : c.body_length-more.result ≡ body_length head.fields = c.body_length-more.ensures.value ∙ ap (λ (fs : List Field). body_length (map as_pair fs)) c.as_slice-2.ensures in
+    body_stays c.args.most _ _ _ _ c.args.held.now mid _ h front head c.in-Ok.ensures.front (subst P c.as_slice.ensures c.in-Ok-judged.ensures.ok)
+    c.read_front.ensures.waits c.send_interim.ensures.kept (ap (λ (n : ℕ). front.size + n) more_is) c.fill.ensures.waits

@@ -1,0 +1,9 @@
+pub mod Counting
+pub mod Inputs
+pub mod OneAnswer
+pub mod OneQuery
+pub mod Rows
+pub mod SelectWords
+pub mod Shelved
+pub mod SomeAnswer
+pub mod Written
