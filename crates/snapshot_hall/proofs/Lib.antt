@@ -1,3 +1,2 @@
 pub mod Gathers
-pub mod Letting
 pub mod SharedRows
