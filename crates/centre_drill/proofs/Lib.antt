@@ -4,5 +4,6 @@ mod Counts
 mod Ended
 mod Heads
 mod MadeRows
+mod Named
 mod Steps
 mod Users

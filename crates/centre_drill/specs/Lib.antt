@@ -1,3 +1,4 @@
+pub mod Credentials
 pub mod Drill
 pub mod Figures
 pub mod History

@@ -1,2 +1,4 @@
-pub mod Submitted
+pub mod Growth
+pub mod Leaving
+pub mod Posts
 pub mod Submitting

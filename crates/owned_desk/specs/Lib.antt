@@ -1,1 +1,3 @@
+pub mod Committing
 pub mod Owned
+pub mod Waiting

@@ -159,7 +159,7 @@ impl Desk for CountingDesk {
         self.desk.stops()
     }
 
-    ghost lawful = { λ c. c.desk.stands.lawful };
+    ghost lawful = { λ c. c.desk.lawful };
 }
 
 // The request that these bytes are.

@@ -1,2 +1,3 @@
 pub mod Gathers
+pub mod Letting
 pub mod SharedRows

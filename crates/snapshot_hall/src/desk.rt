@@ -88,18 +88,17 @@ fn submit_under<D: Disk, J: Naming, T: Carries<J> + Drop, L: Ledger, S: Ledger, 
     limits: &Limits,
 ) -> Result<Submitted, SubmitFault>
     requires fit { can_be_posted posted.now moment ≡ true }
-    requires covers { IsPrefix place.old.front committer.old.front }
+    requires covers { IsPrefix place.old.front committer.old.latest }
     ensures row { Submits (shared_stand J.told J.faults place.old.front place.old.shares place.old.caught)
         (shared_stand J.told J.faults place.new.front place.new.shares place.new.caught) posted.now moment (setting secret.now limits.now) result }
 {
-    let _count = committer.count();
     let made = committer.submit(rt, alloc, &mut place.shares, posted, moment, secret, limits);
     let told = committer.front.again();
     place.reach(rt, &told);
     made
 }
 
-// Submits once what is published is no shorter than what the place has seen. The gate is passed exactly once.
+// Submits once the committed history is no shorter than what the place has seen. The gate is passed exactly once.
 fn submit_at<D: Disk, G: Gate, J: Naming, T: Carries<J> + Drop, L: Ledger, S: Ledger, R: Wait>(
     rt: &R,
     alloc: Global,
@@ -119,7 +118,7 @@ fn submit_at<D: Disk, G: Gate, J: Naming, T: Carries<J> + Drop, L: Ledger, S: Le
     'tries: for _ in rt.forever() {
         let mut guard = lock.lock(rt);
         let committer = &mut **guard;
-        if committer.front.covers(&place.front) {
+        if committer.latest.covers(&place.front) {
             gate.pass(rt);
             return submit_under(rt, alloc, committer, place, posted, moment, secret, limits);
         }

@@ -1,8 +1,9 @@
 //! Starts a hall.
 ghost use Rattle.std.specs.Prelude.{◌≡◌, ◌++◌, ◌∷◌, [], ◌+◌, ◌≤◌, false, List, length, IfOk, IfErr, IfSome};
 ghost use Rattle.std.specs.List.{AllByRecursion};
-ghost use Rattle.disk_model.specs.View.{is_told};
+ghost use Rattle.disk_model.specs.View.{WhereTold, is_told};
 ghost use Rattle.archive_entry.specs.declared.entry.Entry.{Entry};
+ghost use Rattle.archive_state.specs.Admits.{IsAdmit};
 ghost use Rattle.archive_log.specs.Opening.{IsStarted};
 ghost use Rattle.snapshot_hall.specs.Starts.{IsNew};
 
@@ -10,7 +11,6 @@ use crate::hall::Hall;
 use archive_entry::Entry;
 use archive_history::{Book, Front, Naming, Opened};
 use archive_log::Archive;
-use archive_post::Intake;
 use archive_state::Admit;
 use committer::Committer;
 use disk_model::Disk;
@@ -72,8 +72,11 @@ fn over<D: Disk, J: Naming, T: Carries<J> + Drop, L: Ledger, S: Ledger, R: Wait>
     requires count { (1 ≤ count) × (count ≤ 16) }
     requires none { none.now ≡ [] }
     requires opening { J.opening ≡ latest }
-    requires started { IsStarted D.view archive latest admit }
+    requires admits { IsAdmit admit latest }
+    requires counted { archive.count ≡ length latest }
+    requires history { WhereTold (D.view archive.disk) (archive.history ≡ latest) }
     requires told { (J.told ≡ is_told (D.view archive.disk)) × (J.faults ≡ archive.faults) }
+    requires running { archive.stopped ≡ false }
     requires copies { (T.state copies.0 ≡ latest) × (T.state copies.1 ≡ latest) }
     ensures count { IfOk result (λ hall. length hall.1.items ≡ count) }
     ensures new { IfOk result (λ hall. AllByRecursion (λ p. IsNew J.opening p.front p.shares p.caught) hall.1.items) }
@@ -91,7 +94,9 @@ fn over<D: Disk, J: Naming, T: Carries<J> + Drop, L: Ledger, S: Ledger, R: Wait>
     };
     let committer: Committer<D, J, T, L, S> = Committer {
         book,
-        intake: Intake::of(archive, admit),
+        archive,
+        admit,
+        noted: true,
         front: latest.again(),
         latest,
         pending: None,
@@ -108,7 +113,9 @@ fn over<D: Disk, J: Naming, T: Carries<J> + Drop, L: Ledger, S: Ledger, R: Wait>
             let AllocFailed { value } = failed;
             let Committer {
                 book: _,
-                intake,
+                archive,
+                admit: _,
+                noted: _,
                 latest: _,
                 front: _,
                 pending: _,
@@ -117,7 +124,7 @@ fn over<D: Disk, J: Naming, T: Carries<J> + Drop, L: Ledger, S: Ledger, R: Wait>
                 stops: _,
             } = value;
             ManuallyDrop::into_inner(writer).take(rt);
-            Err((intake.close(), OutOfMemory))
+            Err((archive.close(), OutOfMemory))
         }
     }
 }

@@ -4,8 +4,6 @@ use Rattle.archive_entry.specs.declared.entry.Entry.{Entry}
 use Rattle.desk_words.specs.Setting.{setting}
 use Rattle.desk_words.specs.Stand.{Submits}
 use Rattle.two_copies.specs.Tallies.{Tally}
-use Rattle.archive_history.proofs.Beginnings.{begins_on}
-use Rattle.archive_post.specs.Waiting.{committed}
 use Rattle.committer.specs.Rows.{locked}
 use Rattle.snapshot_hall.specs.Shared.{shared_stand}
 use Rattle.snapshot_hall.proofs.SharedRows.{submits_row}
@@ -24,11 +22,10 @@ returns g c =
     let set = setting c.args.secret.now c.args.limits.now in
     let reached = c.reach.ensures.told ∙ c.again-told.ensures in
     let kept = c.reach.ensures.kept in
-    let covers = begins_on place.front old.front (committed old.latest old.intake.waiting) c.requires.covers c.count-count.ensures.begins in
     let grows : IsPrefix place.front new.front = subst (λ (h : List Entry). IsPrefix place.front h) reached c.reach.ensures.seen in
     record {
       row =
           subst (λ (x : List Entry × Tally × ℕ). Submits (shared_stand told faults place.front place.shares place.caught) (shared_stand told faults x.0 x.1 x.2) p m set c.submit-made.result)
           (λ i. (sym reached i, sym kept.0 i, sym kept.1 i))
-          (submits_row told faults place.front place.caught (locked (committed old.latest old.intake.waiting) old.front place.shares) (locked (committed new.latest new.intake.waiting) new.front tally) p m set c.submit-made.result covers grows c.submit-made.ensures.row);
+          (submits_row told faults place.front place.caught (locked old.latest old.front place.shares) (locked new.latest new.front tally) p m set c.submit-made.result c.requires.covers grows c.submit-made.ensures.row);
     }

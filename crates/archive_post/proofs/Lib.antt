@@ -1,6 +1,0 @@
-pub mod Calls
-pub mod Growth
-pub mod Leaving
-pub mod Left
-pub mod Posts
-pub mod Standing

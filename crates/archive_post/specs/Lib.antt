@@ -1,4 +1,0 @@
-pub mod Intake
-pub mod Leaving
-pub mod Posts
-pub mod Waiting
