@@ -1,5 +1,5 @@
 -- The exchange that adds an entry keeps the rule.
-use Rattle.std.proofs.Common.{◌≡◌, ◌∙◌, ℕ, ◌+◌, ◌<◌, ◌^◌, ◌==◌, ◌&&◌, Bool, true, false, List, [], ◌∷◌, ◌++◌, length, refl, ap, sym, subst, arith, inl, length-append, None}
+use Rattle.std.proofs.Common.{◌≡◌, ℕ, ◌+◌, ◌<◌, ◌^◌, ◌==◌, Bool, true, false, List, [], ◌∷◌, ◌++◌, length, refl, ap, sym, subst, arith, inl, length-append, None}
 use Rattle.std.proofs.lemmas.List.{append-nil}
 use Rattle.std.proofs.lemmas.Bool.Decides.{nat_tests}
 use mathlib.Core.List.{IsPrefix}
@@ -8,14 +8,10 @@ use Rattle.logbook.specs.Pages.{Cell, cell, keeps, no_nib, step, Moves, Goes}
 use Rattle.archive_entry.specs.declared.entry.Entry.{Entry}
 use Rattle.archive_state.specs.Lawful.{IsLawful, is_next}
 use Rattle.archive_state.proofs.Accepts.{next_number}
-use Rattle.archive_state.proofs.Growth.{lawful_more}
+use Rattle.archive_state.proofs.Growth.{lawful_push}
 use Rattle.archive_state.proofs.NextEntry.{next_is_entry}
 use Rattle.archive_history.specs.Rules.{IsKept, Adds}
 use Rattle.archive_history.proofs.Beginnings.{whole_beginning}
-
--- a lawful history with the entry that comes next
-pub lawful_push : (h : List Entry) (e : Entry) → IsLawful h → is_next h e ≡ true → IsLawful (h ++ e ∷ [])
-lawful_push h e lawful next = lawful_more h e ∙ (λ i. lawful i && next i)
 
 -- a lawful history has few entries
 pub few_entries : (h : List Entry) (e : Entry) (n : ℕ) → n ≡ length h → IsLawful h → is_next h e ≡ true → n + 1 < 2 ^ 64

@@ -20,7 +20,7 @@ use Rattle.archive_entry.specs.declared.entry.Entry.{Entry}
 use Rattle.archive_entry.specs.declared.entry.Kind.{Kind}
 use Rattle.archive_entry.specs.declared.entry.Kind.TheVariants.{Batch, Revise}
 use Rattle.archive_state.specs.History.{lines_in, lines_by, lines_of, live_of, rows_by, rows_of, held_of, records_by, records_of, bytes_of, is_by, earlier_of, last_seq}
-use Rattle.archive_state.specs.Lawful.{is_next, goes_on, is_lawful}
+use Rattle.archive_state.specs.Lawful.{is_next, goes_on, is_lawful, IsLawful}
 
 pub live_more : (h : List Entry) (e : Entry) → live_of (h ++ e ∷ []) ≡ live_lines (live_of h ++ lines_of e)
 live_more h e =
@@ -83,6 +83,10 @@ on_more past (x ∷ es) e =
 
 pub lawful_more : (h : List Entry) (e : Entry) → is_lawful (h ++ e ∷ []) ≡ (is_lawful h && is_next h e)
 lawful_more h e = on_more [] h e
+
+-- a lawful history with the entry that comes next
+pub lawful_push : (h : List Entry) (e : Entry) → IsLawful h → is_next h e ≡ true → IsLawful (h ++ e ∷ [])
+lawful_push h e lawful next = lawful_more h e ∙ (λ i. lawful i && next i)
 
 -- ---- each entry is the next one of those before it
 

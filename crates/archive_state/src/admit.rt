@@ -169,6 +169,30 @@ impl Admit {
         self.judged(draft, earlier, limits)
     }
 
+    /// The verdict on the command of an author, whoever it is. `earlier` is the entry that [`Admit::earlier`] names for
+    /// the author and the posted sequence number, and none where it names none. How many records the body has may be
+    /// known, as by [`known_records`](crate::known_records).
+    pub fn judge_by(
+        &self,
+        author: &[u8],
+        posted: &Posted,
+        known: Option<usize>,
+        earlier: Option<&Entry>,
+        limits: &Limits,
+    ) -> Result<Verdict, OutOfMemory>
+        requires { IfSome known (IsCounted posted.now.kind posted.now.body) }
+        ensures { IfOk result (λ v. (h : List Entry) → IsAdmit self.now h → option_map (λ e. e.now) earlier.entry ≡ earlier_of h author.now posted.now.seq → v ≡ judged_of h limits.now (command author.now posted.now.seq posted.now.kind posted.now.body)) }
+    {
+        let draft = Draft {
+            author,
+            seq: posted.seq,
+            kind: posted.kind,
+            body: posted.body.as_slice(),
+            known,
+        };
+        self.judge_draft(&draft, earlier, limits)
+    }
+
     /// The verdict on what was posted, over the history that this stands for. `earlier` is the entry that
     /// [`Admit::earlier`] names for the user whom the credentials name and the posted sequence number, and none where
     /// it names none.
@@ -189,16 +213,7 @@ impl Admit {
             moment,
             secret,
         ) {
-            Ok(author) => {
-                let draft = Draft {
-                    author: author.as_slice(),
-                    seq: posted.seq,
-                    kind: posted.kind,
-                    body: posted.body.as_slice(),
-                    known: None,
-                };
-                self.judge_draft(&draft, earlier, limits)
-            }
+            Ok(author) => self.judge_by(author.as_slice(), posted, None, earlier, limits),
             Err(WhoFault::Denied(denial)) => Ok(Verdict::Denied(denial)),
             Err(WhoFault::OutOfMemory) => Err(OutOfMemory),
         }
@@ -249,8 +264,9 @@ impl Admit {
         self.is_next(entry, None)
     }
 
-    // Takes in the next entry, which has so many records. Where memory is missing, nothing changes.
-    fn take_in(&mut self, entry: &Entry, records: usize) -> Result<(), OutOfMemory>
+    /// Takes in the next entry, which has so many records: `note` without a walk over them. Where memory is missing,
+    /// nothing changes.
+    pub fn note_counted(&mut self, entry: &Entry, records: usize) -> Result<(), OutOfMemory>
         requires next { IsNextOf self.old entry.now }
         requires counted { IsCounted entry.now.kind entry.now.body records }
         ensures ok { OnOk result ((h : List Entry) → IsAdmit self.old h → is_next h entry.now ≡ true → IsAdmit self.new (h ++ entry.now ∷ [])) }
@@ -271,7 +287,7 @@ impl Admit {
         ensures err { OnErr result ((h : List Entry) → IsAdmit self.old h → IsAdmit self.new h) }
     {
         let records = records_in(entry.kind, entry.body.as_slice());
-        self.take_in(entry, records)
+        self.note_counted(entry, records)
     }
 
     /// Whether the entry, which has so many records, is the next one, and takes it in if it is: `next_lawful` and `note`
@@ -287,7 +303,7 @@ impl Admit {
         if !self.is_next(entry, Some(records))? {
             return Ok(false);
         }
-        self.take_in(entry, records)?;
+        self.note_counted(entry, records)?;
         Ok(true)
     }
 }

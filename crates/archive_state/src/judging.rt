@@ -132,6 +132,16 @@ pub fn records_in(kind: Kind, body: &[u8]) -> usize
     }
 }
 
+/// How many records a body of a kind has, where none is refused.
+pub fn known_records(kind: Kind, body: &[u8]) -> Option<usize>
+    ensures { IfSome result (IsCounted kind body.now) }
+{
+    match kind {
+        Kind::Batch => batch_of(body).ok(),
+        Kind::Revise => Some(0),
+    }
+}
+
 fn batch_verdict(
     catalog: &Catalog,
     sums: &Sums,

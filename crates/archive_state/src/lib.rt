@@ -26,6 +26,7 @@ mod state;
 mod verdict;
 
 pub use admit::Admit;
+pub use judging::known_records;
 pub use law::{
     a_command_acts_once, a_founding_entry_comes_first, a_history_goes_on_with_its_next_entry,
     an_accepted_command_gets_the_next_number, commands_keep_a_history_lawful,

@@ -7,6 +7,7 @@ ghost use Rattle.epoch_rules.specs.LiveLines.{live_lines};
 ghost use Rattle.archive_entry.specs.Batches.{batch_rows};
 ghost use Rattle.archive_entry.specs.Bodies.{revision_of};
 ghost use Rattle.archive_state.specs.History.{held_of, lines_in, live_of};
+ghost use Rattle.archive_state.specs.Lawful.{IsLawful};
 ghost use Rattle.archive_state.specs.States.{CanAbsorb};
 
 use crate::lines::take_revision;
@@ -127,6 +128,18 @@ impl State {
             catalog: Catalog::new(alloc),
             entries: Vec::new(alloc),
         }
+    }
+
+    /// Of a lawful history.
+    pub fn of(alloc: Global, entries: &[Entry]) -> Result<State, OutOfMemory>
+        requires { IsLawful entries.now }
+        ensures { IfOk result (λ state. state ≡ entries.now) }
+    {
+        let mut state = State::new(alloc);
+        'entries: for entry in entries {
+            state.absorb(entry)?;
+        }
+        Ok(state)
     }
 
     /// The rows that the entries hold: those of all batches in order, without those whose bytes equal an earlier

@@ -243,7 +243,6 @@ fn host<
 fn make_records<S: Source, K: Sink, D: Disk, C: Clock, P: Port + Drop>(
     alloc: Global,
     arguments: &DrillArguments,
-    secret: &Secret,
     source: &S,
     sink: &mut K,
     disk: D,
@@ -256,7 +255,7 @@ fn make_records<S: Source, K: Sink, D: Disk, C: Clock, P: Port + Drop>(
         result.ending }
 {
     let records = arguments.records as u32;
-    let Drilled { ending, disk } = drill(alloc, records, sink, disk, secret);
+    let Drilled { ending, disk } = drill(alloc, records, sink, disk);
     match ending {
         Ok(()) => Done {
             ending: Ok(()),
@@ -332,7 +331,7 @@ fn obey_command<
         }
         Some(CommandWords::Drill(arguments)) => {
             let ports = ports_of(workers, room);
-            make_records(alloc, &arguments, secret, source, sink, disk, clock, ports)
+            make_records(alloc, &arguments, source, sink, disk, clock, ports)
         }
         Some(CommandWords::Serve(arguments)) => host(
             rt, alloc, &arguments, secret, source, sink, disk, clock, workers, room,

@@ -1,9 +1,11 @@
 -- The rows in which a drill ends.
-use Rattle.std.proofs.Common.{◌≡◌, ◌∙◌, ℕ, List, Result, Ok, Err, refl, sym, subst}
+use Rattle.std.proofs.Common.{◌≡◌, ◌∙◌, ℕ, List, Result, Ok, Err, refl, sym, ap, subst}
+use Rattle.std.proofs.lemmas.List.{append-nil}
 use Rattle.disk_model.specs.View.{DiskView, IsHonest, WhereTold, DiskRun}
 use Rattle.archive_entry.specs.declared.entry.Entry.{Entry}
-use Rattle.archive_state.specs.declared.admit.Admit.{Admit}
-use Rattle.archive_log.specs.Archive.{Archived, Stands}
+use Rattle.archive_log.specs.Archive.{Stands}
+use Rattle.archive_post.specs.Waiting.{committed}
+use Rattle.archive_post.specs.declared.kept.Intake.{Intake}
 use Rattle.streams.specs.View.{StreamView}
 use Rattle.centre_drill.specs.Drill.{DrillRow, IsArchiveMade, TellsFigures}
 use Rattle.centre_drill.specs.History.{made_history}
@@ -27,17 +29,20 @@ stopped_row count sink disk left (NotEmpty len) silent run = record {
 stopped_row count sink disk left OutOfMemory silent run = record { silent = refl; run = record { tells = run.tells; later = run.later; cause = λ failed. absurd failed; told = λ told. tt } }
 stopped_row count sink disk left WriteFault silent run = absurd silent
 
-module _ {D T : Type 0} (view : D → DiskView) (count : ℕ) (before : DiskView) (archive : Archived D) (admit : Admit) (state : List Entry) (left : D) (made : T)
-    (begins : Begins before (view archive.disk) (Ok made)) (way : IsUnderWay view archive admit state) (state_is : state ≡ made_history count) (left_is : left ≡ archive.disk)
-    (honest : WhereTold (view archive.disk) (IsHonest (view archive.disk))) (stands : WhereTold (view archive.disk) (Stands view archive)) where
-  made_run : DiskRun before (view archive.disk) ⊥ (IsArchiveMade count before (view archive.disk))
+module _ {D T : Type 0} (view : D → DiskView) (count : ℕ) (before : DiskView) (intake : Intake D) (state : List Entry) (left : D) (made : T)
+    (begins : Begins before (view intake.archive.disk) (Ok made)) (way : IsUnderWay view intake state) (state_is : state ≡ made_history count) (left_is : left ≡ intake.archive.disk)
+    (honest : WhereTold (view intake.archive.disk) (IsHonest (view intake.archive.disk))) (stands : WhereTold (view intake.archive.disk) (Stands view intake.archive)) where
+  history_is : WhereTold (view intake.archive.disk) (intake.archive.history ≡ made_history count)
+  history_is told = way.stands.history told ∙ ap (committed state) way.nothing.0 ∙ append-nil state ∙ state_is
+
+  made_run : DiskRun before (view intake.archive.disk) ⊥ (IsArchiveMade count before (view intake.archive.disk))
   made_run = record {
     tells = begins.tells;
     later = begins.later;
     cause = λ failed. absurd failed;
     told = λ told.
         let here = begins.tells ∙ told in
-        record { empty = (begins.told told).empty; holds = holds view archive (made_history count) (honest here) (stands here) way.running (way.history here ∙ state_is) };
+        record { empty = (begins.told told).empty; holds = holds view intake.archive (made_history count) (honest here) (stands here) way.running (history_is here) };
   }
 
   run : DiskRun before (view left) ⊥ (IsArchiveMade count before (view left))

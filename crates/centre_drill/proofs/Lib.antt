@@ -4,6 +4,5 @@ mod Counts
 mod Ended
 mod Heads
 mod MadeRows
-mod Named
 mod Steps
 mod Users

@@ -1,32 +1,18 @@
 -- What is known of an archive from step to step while it is made.
-use Rattle.std.proofs.Common.{◌≡◌, ◌∙◌, ℕ, ◌+◌, ◌-◌, ◌≤◌, true, false, List, [], ◌∷◌, ◌++◌, length, Result, Ok, Err, inl, inr, refl, sym, ap, subst, arith}
+use Rattle.std.proofs.Common.{◌≡◌, ◌∙◌, ℕ, false, List, length, Result, Ok, Err, refl, ap, subst, arith}
 use Rattle.std.specs.Prelude.{OnOk, IsErrOf}
 use Rattle.std.specs.Result.{IsErrAnd}
-use Rattle.disk_model.specs.View.{DiskView, IsHonest, WhereTold, DiskRun, is_told, file_of}
+use Rattle.disk_model.specs.View.{DiskView, IsHonest, DiskRun, file_of}
 use Rattle.archive_entry.specs.declared.entry.Entry.{Entry}
-use Rattle.archive_state.specs.Admits.{IsAdmit}
-use Rattle.archive_state.specs.Lawful.{IsLawful, full, is_accept, is_fit, is_next}
-use Rattle.archive_state.specs.Verdicts.{command_of, judged_of}
-use Rattle.archive_state.proofs.Accepts.{Accepts, later_parts, next_by}
-use Rattle.archive_state.specs.declared.admit.Admit.{Admit}
-use Rattle.archive_state.specs.declared.verdict.Verdict.{Verdict}
-use Rattle.archive_state.specs.declared.verdict.Verdict.TheVariants.{Denied, Role, Repeat, OtherBody, Gap, BadRecord, BadLine, Broken, FullRecords, FullBytes, Accept}
-use Rattle.access_digest.specs.declared.denial.Denial.{Denial}
-use Rattle.epochs.specs.Kinds.{Text}
 use Rattle.archive_log.specs.Archive.{Archived, Stands}
 use Rattle.archive_log.specs.Founding.{MakesArchive}
+use Rattle.archive_post.specs.Posts.{Commits}
 use Rattle.archive_log.specs.declared.fault.FoundFault.{FoundFault}
 use Rattle.archive_log.specs.declared.fault.FoundFault.TheVariants as found
-use Rattle.owned_desk.proofs.Growth.{lawful_push}
 use Rattle.centre_drill.specs.Drill.{HoldsHistory, stop_for_founding}
-use Rattle.centre_drill.specs.Making.{Begins, ExplainsStop, IsMakingStop, IsSilentStop, IsUnderWay, Runs}
+use Rattle.centre_drill.specs.Making.{Begins, ExplainsStop, IsMakingStop, IsSilentStop, Runs}
 use Rattle.centre_drill.specs.declared.ending.DrillStop.{DrillStop}
 use Rattle.centre_drill.specs.declared.ending.DrillStop.TheVariants.{WriteFault, DiskFault, NotEmpty, OutOfMemory}
-
--- what stands for a list stands for it by another name
-pub ok_admits : {T E : Type 0} (r : Result T E) (a : Admit) (s t : List Entry) → OnOk r (s ≡ t) → IsAdmit a t → OnOk r (IsAdmit a s)
-ok_admits (Ok x) a s t is admits = subst (IsAdmit a) (sym is) admits
-ok_admits (Err e) a s t is admits = tt
 
 same_fault : {A : Type 0} (fault other : FoundFault) (r : Result A FoundFault) → r ≡ Err fault → r ≡ Err other → fault ≡ other
 same_fault fault other r is also = cc
@@ -134,80 +120,15 @@ silent_making DiskFault may = tt
 silent_making (NotEmpty len) may = tt
 silent_making OutOfMemory may = tt
 
--- ---- what is judged
-
-pub not_refused : (v : Verdict) → is_accept v ≡ true → ((n : ℕ) → v ≡ Accept n → ⊥) → ⊥
-not_refused (Accept n) is other = other n refl
-not_refused (Denied denial) is other = cc
-not_refused Role is other = cc
-not_refused (Repeat n) is other = cc
-not_refused (OtherBody n) is other = cc
-not_refused (Gap n) is other = cc
-not_refused (BadRecord at fault) is other = cc
-not_refused (BadLine line fault) is other = cc
-not_refused (Broken line rule) is other = cc
-not_refused (FullRecords n) is other = cc
-not_refused (FullBytes n) is other = cc
-
-pub one_name : (w : Result Text Denial) (a b : Text) → w ≡ Ok a → w ≡ Ok b → a ≡ b
-one_name w a b is also = cc
-
 -- ---- one entry more
+
+-- a commit of an archive that ran
+pub called_run : {D : Type 0} (view : D → DiskView) (old new : Archived D) (h : List Entry) (e : Entry) (A B : Type 0) → Commits view old new h e A → old.stopped ≡ false → (B → A) → Runs (view old.disk) (view new.disk) B
+called_run view old new h e A B call running means = record { tells = call.tells; later = call.later; cause = λ b. call.failed (means b) running; told = λ told. tt }
 
 pub not_disk : {T : Type 0} (r : Result T DrillStop) → IsErrAnd r (λ f. f ≡ OutOfMemory) → IsErrOf r DiskFault → ⊥
 not_disk (Ok x) is so = is
 not_disk (Err f) is so = absurd (cc (is, so))
-
-module _ {D : Type 0} (view : D → DiskView) (old mid : Archived D) (admit : Admit) (state : List Entry) (way : IsUnderWay view old admit state) (prepared : mid ≡ record old { spare = mid.spare }) where
-  pub same_disk : mid.disk ≡ old.disk
-  same_disk = ap (λ (a : Archived D). a.disk) prepared
-
-  pub still_runs : mid.stopped ≡ false
-  still_runs = ap (λ (a : Archived D). a.stopped) prepared ∙ way.running
-
-  pub told_before : is_told (view mid.disk) ≡ true → is_told (view old.disk) ≡ true
-  told_before told = ap (λ (d : D). is_told (view d)) (sym same_disk) ∙ told
-
-  -- the entry comes next in the archive too
-  pub next_there : (e : Entry) → is_next state e ≡ true → WhereTold (view mid.disk) (is_next mid.history e ≡ true)
-  next_there e next told = ap (λ (l : List Entry). is_next l e) (ap (λ (a : Archived D). a.history) prepared ∙ way.history (told_before told)) ∙ next
-
-  -- a commit that was done, or that the disk stopped
-  pub commit_run : (d : D) (A B Told : Type 0) → DiskRun (view mid.disk) (view d) A Told → (B → A) → Runs (view old.disk) (view d) B
-  commit_run d A B Told run means = subst (λ (x : D). Runs (view x) (view d) B) same_disk (runs_by (view mid.disk) (view d) A B Told run means)
-
-  pub rest_run : (B : Type 0) → (B → ⊥) → Runs (view old.disk) (view mid.disk) B
-  rest_run B never = subst (λ (x : D). Runs (view x) (view mid.disk) B) same_disk (at_rest (view mid.disk) B never)
-
-  module _ (new : Archived D) (e given : Entry) (committed : new ≡ record mid { disk = new.disk; history = new.history; count = mid.count + 1; spare = mid.spare - 1 }) (tells : is_told (view new.disk) ≡ is_told (view mid.disk))
-      (added : WhereTold (view mid.disk) (new.history ≡ mid.history ++ e ∷ [])) (back : given ≡ e) (next : is_next state e ≡ true) where
-    pub grown : (later : List Entry) → later ≡ state ++ given ∷ [] → later ≡ state ++ e ∷ []
-    grown later is = is ∙ ap (λ (x : Entry). state ++ x ∷ []) back
-
-    pub next_given : is_next state given ≡ true
-    next_given = ap (is_next state) back ∙ next
-
-    pub way_on : (after : Admit) (later : List Entry) → later ≡ state ++ given ∷ [] → IsAdmit after later → IsUnderWay view new after later
-    way_on after later is admits = record {
-      running = ap (λ (a : Archived D). a.stopped) committed ∙ still_runs;
-      history = λ told.
-          let here = sym tells ∙ told in
-          added here
-          ∙ ap (λ (l : List Entry). l ++ e ∷ []) (ap (λ (a : Archived D). a.history) prepared ∙ way.history (told_before here))
-          ∙ sym (grown later is);
-      admits = admits;
-      lawful = subst IsLawful (sym (grown later is)) (lawful_push state e way.lawful next);
-    }
-
--- ---- what comes next
-
--- what comes next behind others fits, and is accepted
-pub next_says : (h : List Entry) (e : Entry) → 1 ≤ length h → is_next h e ≡ true → (is_fit e ≡ true) × Accepts (judged_of h full (command_of e))
-next_says h e some next =
-    elim (next_by h e next) [
-      | inl none ↦ absurd (let empty = ap length none.0 in omega (arith, empty, some))
-      | inr later ↦ (let parts = later_parts h e later in (parts.1, parts.2))
-    ]
 
 pub on_ok : {T E : Type 0} (r : Result T E) (A B : Type 0) → OnOk r A → (A → B) → OnOk r B
 on_ok (Ok x) A B a by = by a

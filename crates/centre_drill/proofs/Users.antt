@@ -1,5 +1,5 @@
 -- The first two entries, and whom their lines make users.
-use Rattle.std.proofs.Common.{◌≡◌, ◌∙◌, ◌≤◌, true, false, List, [], ◌∷◌, ◌++◌, length, None, Some, Ok, Result, refl, ap, codes, arith}
+use Rattle.std.proofs.Common.{◌≡◌, ◌∙◌, ◌≤◌, true, false, List, [], ◌∷◌, ◌++◌, length, None, Ok, Result, refl, ap, codes, arith}
 use Rattle.std.specs.Prelude.{nat_lt}
 use Rattle.std.specs.Char.{is_control}
 use Rattle.std.specs.List.{list_all, list_any}
@@ -21,7 +21,6 @@ use Rattle.archive_entry.proofs.Readings.{revision_is}
 use Rattle.archive_state.specs.History.{live_of, lines_in, may_post}
 use Rattle.archive_state.specs.Lawful.{founding_body, founding_entry}
 use Rattle.archive_state.proofs.Founding.{founding_revision, operator as operator_role}
-use Rattle.access_digest.specs.Who.{ha1_of}
 use Rattle.centre_drill.specs.History.{feed, feed_body, feed_entry, ha1, operator}
 
 ascii : (text : Text) → list_all (λ c. nat_lt c 128) text ≡ true → IsAscii text
@@ -87,13 +86,6 @@ feed_may = refl
 
 pub both_may : may_post (live_of both) feed Batch ≡ true
 both_may = ap (λ (live : List LineValues). may_post live feed Batch) both_live ∙ feed_may
-
--- and each is known
-pub first_known : ha1_of (live_of first) operator ≡ Some ha1
-first_known = ap (λ (live : List LineValues). ha1_of live operator) first_live
-
-pub both_known : ha1_of (live_of both) feed ≡ Some ha1
-both_known = ap (λ (live : List LineValues). ha1_of live feed) both_live
 
 -- the feed's line keeps the rules
 pub feed_kept : first_broken (operator_line ∷ []) (feed_line ∷ []) ≡ None

@@ -1,4 +1,3 @@
-pub mod Credentials
 pub mod Drill
 pub mod Figures
 pub mod History

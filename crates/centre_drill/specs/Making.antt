@@ -1,22 +1,19 @@
 -- What is known while an archive is made.
-use Rattle.std.specs.Prelude.{◌≡◌, ℕ, ◌<◌, List, [], length, false, Result, Ok, Err, IfErr, OnOk, IsErrOf, ⊤}
+use Rattle.std.specs.Prelude.{◌≡◌, ℕ, ◌<◌, List, [], length, true, false, None, Result, Ok, Err, IfErr, OnOk, IsErrOf, ⊤}
 use Rattle.disk_model.specs.Disk.{Leaves}
-use Rattle.disk_model.specs.View.{DiskView, WhereTold, DiskRun, file_of}
+use Rattle.disk_model.specs.View.{DiskView, DiskRun, file_of}
 use Rattle.archive_entry.specs.declared.entry.Entry.{Entry}
-use Rattle.archive_state.specs.Admits.{IsAdmit}
-use Rattle.archive_state.specs.Lawful.{IsLawful}
-use Rattle.archive_state.specs.declared.admit.Admit.{Admit}
-use Rattle.archive_log.specs.Archive.{Archived}
+use Rattle.archive_post.specs.Intake.{StandsFor}
+use Rattle.archive_post.specs.declared.kept.Intake.{Intake}
 use Rattle.centre_drill.specs.declared.ending.DrillStop.{DrillStop}
 use Rattle.centre_drill.specs.declared.ending.DrillStop.TheVariants.{WriteFault, DiskFault, NotEmpty, OutOfMemory}
 use Rattle.centre_drill.specs.declared.making.Making.{Making}
 
--- an archive that runs, what judges its next entry, and the state of its history
-pub record IsUnderWay {D : Type 0} (view : D → DiskView) (archive : Archived D) (admit : Admit) (state : List Entry) : Type 0 where
-  pub running : archive.stopped ≡ false
-  pub history : WhereTold (view archive.disk) (archive.history ≡ state)
-  pub admits : IsAdmit admit state
-  pub lawful : IsLawful state
+-- an archive that runs and takes commands for the history of a state, which has all that was committed
+pub record IsUnderWay {D : Type 0} (view : D → DiskView) (intake : Intake D) (state : List Entry) : Type 0 where
+  pub running : intake.archive.stopped ≡ false
+  pub stands : StandsFor view intake state
+  pub nothing : (intake.waiting ≡ None) × (intake.noted ≡ true)
 
 -- some calls of a disk, which failed where this is so
 abbrev pub Runs : DiskView → DiskView → Type 0 → Type 0
@@ -61,7 +58,7 @@ Begins old new outcome = DiskRun old new (IsErrOf outcome DiskFault) (IsBegun ol
 
 -- the disk that is given back, with what is made or with why it isn't, and the answer without the disk
 abbrev pub disk_left : {D : Type 0} → Result (Making D) (D × DrillStop) → D
-disk_left (Ok making) = making.archive.disk
+disk_left (Ok making) = making.intake.archive.disk
 disk_left (Err refused) = refused.0
 
 abbrev pub outcome_of : {T D : Type 0} → Result T (D × DrillStop) → Result T DrillStop

@@ -9,7 +9,6 @@ use crate::making::Making;
 use archive_state::State;
 use disk_model::Disk;
 use exact_time::OutOfMemory;
-use http_digest::Secret;
 use std::alloc::{AllocError, Global};
 use streams::{Sink, put_all};
 
@@ -64,17 +63,11 @@ pub struct Drilled<D: Disk> {
 
 /// Makes an archive of so many made records, from 1 to 200,000, in the empty file of a disk, and then writes its figures
 /// on a sink, each on a line.
-pub fn drill<K: Sink, D: Disk>(
-    alloc: Global,
-    count: u32,
-    sink: &mut K,
-    disk: D,
-    secret: &Secret,
-) -> Drilled<D>
+pub fn drill<K: Sink, D: Disk>(alloc: Global, count: u32, sink: &mut K, disk: D) -> Drilled<D>
     requires { count ≤ 200_000 }
     ensures row { DrillRow count (K.view sink.old) (K.view sink.new) (D.view disk) (D.view result.disk) result.ending }
 {
-    let making = match Making::make(alloc, secret, count, disk) {
+    let making = match Making::make(alloc, count, disk) {
         Ok(making) => making,
         Err((disk, stop)) => {
             return Drilled {
@@ -83,9 +76,9 @@ pub fn drill<K: Sink, D: Disk>(
             };
         }
     };
-    let Making { archive, state, .. } = making;
+    let Making { intake, state } = making;
     Drilled {
         ending: tell(alloc, &state, sink),
-        disk: archive.close(),
+        disk: intake.close(),
     }
 }

@@ -1,8 +1,7 @@
 //! How a drill ends.
 ghost use Rattle.std.specs.Prelude.{◌≡◌};
-ghost use Rattle.centre_drill.specs.declared.ending.DrillStop.TheVariants.{OutOfMemory as NoMemory, DiskFault as NoDisk};
+ghost use Rattle.centre_drill.specs.declared.ending.DrillStop.TheVariants.{OutOfMemory as NoMemory};
 
-use archive_journal::DiskFault;
 use archive_log::FoundFault;
 use exact_time::OutOfMemory;
 
@@ -23,14 +22,6 @@ impl From<OutOfMemory> for DrillStop {
 
     fn from(_error: OutOfMemory) -> DrillStop {
         DrillStop::OutOfMemory
-    }
-}
-
-impl From<DiskFault> for DrillStop {
-    ghost from_gives = { λ _ stop. stop ≡ NoDisk };
-
-    fn from(_error: DiskFault) -> DrillStop {
-        DrillStop::DiskFault
     }
 }
 

@@ -1,6 +1,6 @@
 //! An archive of made records in an empty file, and what is counted of it.
 //!
-//! What the crate above uses: [`drill`] founds an archive on a disk, adds a user and the records, each entry judged,
+//! What the crate above uses: [`drill`] founds an archive on a disk, adds a user and the records, each entry tested,
 //! committed and taken into a state, and writes five figures of that state on a sink. Its contract, `DrillRow` of
 //! `specs/Drill.antt`, says by how it ended what the disk then holds and what was written.
 //!
@@ -9,7 +9,6 @@
 //! made record says.
 #![tactic(auto)]
 
-mod credentials;
 mod drilling;
 mod ending;
 mod figures;

@@ -14,7 +14,7 @@ use Rattle.archive_state.specs.Lawful.{IsLawful}
 use Rattle.desk_words.specs.Setting.{Setting}
 use Rattle.desk_words.specs.Stand.{Left, nothing}
 use Rattle.link_ports.specs.Ports.{PortView}
-use Rattle.owned_desk.specs.Owned.{LeavesLeft, KeepsHistory}
+use Rattle.archive_post.specs.Leaving.{LeavesLeft, KeepsHistory}
 use Rattle.centre_serve.specs.Whole.{AllServed, AreSpent, OneRose, halted}
 use Rattle.centre_serve.specs.declared.ending.ServeStop.{ServeStop}
 use Rattle.centre_serve.specs.declared.ending.ServeStop.TheVariants.{DiskFault, PortFault, NotAJournal, Damaged, OutOfMemory}

@@ -6,7 +6,7 @@ use Rattle.desk_words.specs.Setting.{Setting}
 use Rattle.desk_words.specs.Stand.{Stand}
 use Rattle.disk_model.specs.View.{DiskView, is_told}
 use Rattle.http_wire.specs.declared.turn.Turn.{Turn}
-use Rattle.owned_desk.specs.Owned.{LeavesLeft, KeepsHistory}
+use Rattle.archive_post.specs.Leaving.{LeavesLeft, KeepsHistory}
 use Rattle.streams.specs.View.{StreamView}
 use Rattle.centre_session.specs.Session.{Scene, scene, SessionRow}
 use Rattle.centre_session.specs.declared.ending.SessionEnd.{SessionEnd}

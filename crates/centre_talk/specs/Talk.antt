@@ -11,7 +11,7 @@ use Rattle.archive_log.specs.declared.fault.StartFault.TheVariants as start
 use Rattle.desk_words.specs.Setting.{Setting}
 use Rattle.desk_words.specs.Stand.{Stand, nothing}
 use Rattle.http_wire.specs.declared.turn.Turn.{Turn}
-use Rattle.owned_desk.specs.Owned.{LeavesLeft, KeepsHistory}
+use Rattle.archive_post.specs.Leaving.{LeavesLeft, KeepsHistory}
 use Rattle.streams.specs.View.{StreamView}
 use Rattle.centre_session.specs.Session.{scene, SessionRow}
 use Rattle.centre_session.specs.declared.ending.SessionEnd.{SessionEnd}

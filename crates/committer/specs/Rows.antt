@@ -4,6 +4,7 @@ use mathlib.Core.List.{IsPrefix}
 use Rattle.exact_time.specs.declared.moment.Moment.{Moment}
 use Rattle.archive_entry.specs.declared.entry.Entry.{Entry}
 use Rattle.archive_state.specs.declared.posted.Posted.{Posted}
+use Rattle.archive_state.specs.declared.verdict.Verdict.{Verdict}
 use Rattle.desk_words.specs.Posting.{ruling, posted_entry, added_by, listed, could_stop}
 use Rattle.desk_words.specs.Setting.{Setting}
 use Rattle.desk_words.specs.Stand.{made_by}
@@ -61,3 +62,9 @@ LockedRow old new p m s (Err NoMemory) = IsUnsure old new p m s
 pub record SubmitsLocked (old new : Locked) (p : Posted) (m : Moment) (s : Setting) (result : Result Submitted SubmitFault) : Type 0 where
   pub grows : IsPrefix old.shown new.shown
   pub row : LockedRow old new p m s result
+
+-- posting counts one entry more on Accept, one stop more where a disk stopped it, and nothing else
+abbrev pub Counted : Tally → Tally → Result Verdict SubmitFault → Type 0
+Counted old new (Ok verdict) = new ≡ tally (old.made + made_by verdict) old.stops
+Counted old new (Err Stopped) = new ≡ with_stop old
+Counted old new (Err NoMemory) = new ≡ old

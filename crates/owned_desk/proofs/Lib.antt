@@ -1,4 +1,2 @@
-pub mod Growth
-pub mod Leaving
-pub mod Posts
+pub mod Submitted
 pub mod Submitting

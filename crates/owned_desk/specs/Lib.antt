@@ -1,3 +1,1 @@
-pub mod Committing
 pub mod Owned
-pub mod Waiting

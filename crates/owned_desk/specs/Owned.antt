@@ -1,40 +1,38 @@
--- What an owned desk stands for, and what its disk holds.
-use Rattle.std.specs.Prelude.{ℕ, Bool, true, List, [], ◌∷◌, ◌++◌, ⊤, Option, None, Some}
-use Rattle.disk_model.specs.Disk.{Leaves}
+-- What an owned desk stands for.
+use Rattle.std.specs.Prelude.{◌≡◌, ℕ, true, List, Result, Ok, Err}
+use Rattle.disk_model.specs.View.{DiskView, is_told}
 use Rattle.archive_entry.specs.declared.entry.Entry.{Entry}
-use Rattle.archive_log.specs.Histories.{IsHistory, IsNextEntry, Recovers, RecoversWithOrWithout}
-use Rattle.desk_words.specs.Stand.{Stand, Left, nothing, short, stopped}
+use Rattle.archive_state.specs.declared.verdict.Verdict.{Verdict}
+use Rattle.desk_words.specs.Counts.{RoseWithin}
+use Rattle.desk_words.specs.Stand.{Stand, made_by}
+use Rattle.desk_words.specs.declared.asking.SubmitFault.{SubmitFault}
+use Rattle.desk_words.specs.declared.asking.SubmitFault.TheVariants.{Stopped, OutOfMemory as NoMemory}
+use Rattle.archive_post.specs.Leaving.{left_of}
+use Rattle.archive_post.specs.declared.kept.Intake.{Intake}
 
--- what is left: the entry that waits, or the one whose commit failed
-abbrev pub left_of : Option Entry → Option Entry → Left
-left_of (Some e) hand = short e
-left_of None (Some e) = stopped e
-left_of None None = nothing
+-- what a desk counts
+pub record Counts : Type 0 where
+  pub stops : ℕ
+  pub caught : ℕ
+  pub made : ℕ
 
-abbrev pub stand_as : Bool → ℕ → List Entry → ℕ → ℕ → ℕ → Option Entry → Option Entry → Stand
-stand_as told faults seen stops caught made waiting hand = record {
-  footing = record { told = told; faults = faults };
+abbrev pub counts : (stops caught made : ℕ) → Counts
+counts stops caught made = record { stops = stops; caught = caught; made = made }
+
+-- it stands for what was seen, and what was left is what waits, or what is in hand
+abbrev pub stand_over : {D : Type 0} → (D → DiskView) → Intake D → List Entry → Counts → Stand
+stand_over view intake seen c = record {
+  footing = record { told = is_told (view intake.archive.disk); faults = intake.archive.faults };
   seen = seen;
-  stops = stops;
-  caught = caught;
-  made = made;
+  stops = c.stops;
+  caught = c.caught;
+  made = c.made;
   alone = true;
-  left = left_of waiting hand;
+  left = left_of intake.waiting intake.archive.hand;
 }
 
--- a crash leaves what was seen; or this and what was left short; or this with or without what was stopped
-abbrev pub LeavesLeft : (List ℕ → Type 0) → List Entry → Left → Type 0
-LeavesLeft images seen nothing = Leaves images (Recovers seen)
-LeavesLeft images seen (short e) = Leaves images (Recovers (seen ++ e ∷ []))
-LeavesLeft images seen (stopped e) = Leaves images (RecoversWithOrWithout seen e)
-
--- what was left may come next
-abbrev pub ComesNext : List Entry → Left → Type 0
-ComesNext seen nothing = ⊤
-ComesNext seen (short e) = IsNextEntry seen e
-ComesNext seen (stopped e) = IsNextEntry seen e
-
--- What was seen is a history, in which what was left may come next: so each file that a crash leaves is one that opens.
-pub record KeepsHistory (seen : List Entry) (left : Left) : Type 0 where
-  pub history : IsHistory seen
-  pub next : ComesNext seen left
+-- Posting counts one entry more on Accept, one stop more where a disk stopped it, and nothing else.
+abbrev pub Counted : Counts → Counts → Result Verdict SubmitFault → Type 0
+Counted old new (Ok verdict) = (new.stops ≡ old.stops) × RoseWithin (made_by verdict) (made_by verdict) old.made new.made
+Counted old new (Err Stopped) = RoseWithin 1 1 old.stops new.stops × (new.made ≡ old.made)
+Counted old new (Err NoMemory) = (new.stops ≡ old.stops) × (new.made ≡ old.made)

@@ -3,19 +3,14 @@
 //! What the crates above use: [`OwnedDesk`], a `Desk` of `desk_words` over any disk. [`OwnedDesk::start`] opens the
 //! history that the disk's bytes spell, and [`OwnedDesk::close`] gives the disk back: every image, which is the file
 //! that a crash then leaves, is a journal of what was seen, or of this and the one entry that was left: committed where
-//! memory ran out behind the commit, or with it or without it where the disk stopped its commit (`LeavesLeft` in
-//! `specs/Owned.antt`).
+//! memory ran out behind the commit, or with it or without it where the disk stopped its commit (`LeavesLeft` of
+//! `archive_post`, whose `Intake` is the way of a posted command).
 //!
-//! What every desk judges by: [`judge`], the verdict over the history of a state, and [`entry_from`], the entry that it
-//! becomes.
-//!
-//! The definitions: `specs/Owned.antt` says what a desk stands for, `specs/Waiting.antt` what waits beside the history.
+//! The definition: `specs/Owned.antt` says what a desk stands for.
 #![tactic(auto)]
 
-mod judging;
 mod kept;
 mod opening;
 mod owned;
 
-pub use judging::{Judged, entry_from, judge};
 pub use kept::OwnedDesk;

@@ -159,7 +159,7 @@ impl Desk for CountingDesk {
         self.desk.stops()
     }
 
-    ghost lawful = { λ c. c.desk.lawful };
+    ghost lawful = { λ c. c.desk.stands.lawful };
 }
 
 // The request that these bytes are.

@@ -1,16 +1,17 @@
 //! Starts a hall.
 ghost use Rattle.std.specs.Prelude.{◌≡◌, ◌++◌, ◌∷◌, [], ◌+◌, ◌≤◌, false, List, length, IfOk, IfErr, IfSome};
 ghost use Rattle.std.specs.List.{AllByRecursion};
-ghost use Rattle.disk_model.specs.View.{WhereTold, is_told};
+ghost use Rattle.disk_model.specs.View.{is_told};
 ghost use Rattle.archive_entry.specs.declared.entry.Entry.{Entry};
-ghost use Rattle.archive_state.specs.Admits.{IsAdmit};
 ghost use Rattle.archive_log.specs.Opening.{IsStarted};
+ghost use Rattle.archive_world.specs.Submitting.{Opens};
 ghost use Rattle.snapshot_hall.specs.Starts.{IsNew};
 
 use crate::hall::Hall;
 use archive_entry::Entry;
 use archive_history::{Book, Front, Naming, Opened};
 use archive_log::Archive;
+use archive_post::Intake;
 use archive_state::Admit;
 use committer::Committer;
 use disk_model::Disk;
@@ -53,6 +54,7 @@ fn new_places<J: Naming, T: Carries<J> + Drop, L: Ledger, S: Ledger>(
 }
 
 // A hall over two copies that hold the archive's history, and its places.
+#[tactic(auto, using(crate::proofs::Told::opens_new))]
 fn over<D: Disk, J: Naming, T: Carries<J> + Drop, L: Ledger, S: Ledger, R: Wait>(
     rt: &R,
     alloc: Global,
@@ -72,14 +74,12 @@ fn over<D: Disk, J: Naming, T: Carries<J> + Drop, L: Ledger, S: Ledger, R: Wait>
     requires count { (1 ≤ count) × (count ≤ 16) }
     requires none { none.now ≡ [] }
     requires opening { J.opening ≡ latest }
-    requires admits { IsAdmit admit latest }
-    requires counted { archive.count ≡ length latest }
-    requires history { WhereTold (D.view archive.disk) (archive.history ≡ latest) }
+    requires started { IsStarted D.view archive latest admit }
     requires told { (J.told ≡ is_told (D.view archive.disk)) × (J.faults ≡ archive.faults) }
-    requires running { archive.stopped ≡ false }
     requires copies { (T.state copies.0 ≡ latest) × (T.state copies.1 ≡ latest) }
     ensures count { IfOk result (λ hall. length hall.1.items ≡ count) }
     ensures new { IfOk result (λ hall. AllByRecursion (λ p. IsNew J.opening p.front p.shares p.caught) hall.1.items) }
+    ensures steps { IfOk result (λ hall. Opens J.opening (λ p. p.front) hall.1.items) }
     ensures refused { IfErr result (λ refused. refused.0 ≡ archive.disk) }
 {
     let (entries, mut made) = made.open::<L>();
@@ -94,9 +94,7 @@ fn over<D: Disk, J: Naming, T: Carries<J> + Drop, L: Ledger, S: Ledger, R: Wait>
     };
     let committer: Committer<D, J, T, L, S> = Committer {
         book,
-        archive,
-        admit,
-        noted: true,
+        intake: Intake::of(archive, admit),
         front: latest.again(),
         latest,
         pending: None,
@@ -113,9 +111,7 @@ fn over<D: Disk, J: Naming, T: Carries<J> + Drop, L: Ledger, S: Ledger, R: Wait>
             let AllocFailed { value } = failed;
             let Committer {
                 book: _,
-                archive,
-                admit: _,
-                noted: _,
+                intake,
                 latest: _,
                 front: _,
                 pending: _,
@@ -124,7 +120,7 @@ fn over<D: Disk, J: Naming, T: Carries<J> + Drop, L: Ledger, S: Ledger, R: Wait>
                 stops: _,
             } = value;
             ManuallyDrop::into_inner(writer).take(rt);
-            Err((archive.close(), OutOfMemory))
+            Err((intake.close(), OutOfMemory))
         }
     }
 }
@@ -159,6 +155,8 @@ impl<D: Disk, J: Naming, L: Ledger, S: Ledger> Hall<D, J, HeldState<J>, L, S> {
         requires count { (1 ≤ count) × (count ≤ 16) }
         ensures count { IfOk result (λ hall. length hall.1.items ≡ count) }
         ensures new { IfOk result (λ hall. AllByRecursion (λ p. IsNew J.opening p.front p.shares p.caught) hall.1.items) }
+        // Whichever world it is that a crash left so, it recovers, and each place reads all of it.
+        ensures steps { IfOk result (λ hall. Opens J.opening (λ p. p.front) hall.1.items) }
         ensures refused { IfErr result (λ refused. refused.0 ≡ archive.disk) }
     {
         let (book, none) = opened.named::<J>();

@@ -1,6 +1,5 @@
 //! What each copy holds.
 ghost use Rattle.std.specs.Prelude.{◌≡◌, ◌++◌, ◌∷◌, [], IfOk, OnOk, OnErr};
-ghost use Rattle.archive_state.specs.Lawful.{IsLawful};
 
 use crate::carries::Carries;
 use crate::step::Step;
@@ -30,18 +29,6 @@ impl<J: Naming> Model for HeldState<J> {
     ghost invariant = { λ h. h.state ≡ h.front };
 }
 
-// The state of a lawful history.
-fn loaded(alloc: Global, entries: &[Entry]) -> Result<State, OutOfMemory>
-    requires { IsLawful entries.now }
-    ensures { IfOk result (λ state. state ≡ entries.now) }
-{
-    let mut state = State::new(alloc);
-    'entries: for entry in entries {
-        state.absorb(entry)?;
-    }
-    Ok(state)
-}
-
 impl<J: Naming> HeldState<J> {
     /// The state of the history of which this is the token, and these are the entries.
     pub fn of(
@@ -53,7 +40,7 @@ impl<J: Naming> HeldState<J> {
         ensures { IfOk result (λ held. held ≡ front.now) }
     {
         let _lawful = front.count();
-        let state = loaded(alloc, entries)?;
+        let state = State::of(alloc, entries)?;
         Ok(HeldState {
             state,
             front: front.again(),

@@ -1,4 +1,4 @@
-use Rattle.std.proofs.Common.{◌≡◌, sym, subst, ◌∙◌, arith}
+use Rattle.std.proofs.Common.{sym, subst, ◌∙◌, arith}
 use Rattle.exact_time.proofs.Clock.{since_1970, before_2600}
 use Rattle.mseed_header.specs.Octets.{AreOctets}
 use Rattle.archive_entry.proofs.Readings.{batch_rows_is}

@@ -1,9 +1,9 @@
 use Rattle.std.proofs.Common.{None, Some, Err, Result, refl, sym, subst}
 use Rattle.disk_model.specs.Effects.{WritesNothing}
-use Rattle.disk_model.specs.View.{is_told}
 use Rattle.desk_words.specs.Setting.{setting}
 use Rattle.desk_words.specs.Stand.{Stand}
-use Rattle.owned_desk.specs.Owned.{left_of, stand_as}
+use Rattle.archive_post.specs.Leaving.{left_of}
+use Rattle.owned_desk.specs.Owned.{counts, stand_over}
 use Rattle.centre_talk.specs.Talk.{place, TalkRow}
 use Rattle.centre_talk.specs.declared.ending.TalkStop.{TalkStop}
 use Rattle.centre_talk.proofs.Rows.{Opens, start_row, memory_row, talk_row}
@@ -42,7 +42,7 @@ returns g c =
     let after = place (g.S.Stream.view c.session_over-outcome.new.source) (g.T.Stream.view c.session_over-outcome.new.sink) (g.C.Clock.given c.session_over-outcome.new.clock) (g.D.Disk.view outcome.disk) in
     let opened = c.in-Ok.ensures in
     let desk = c.in-Ok.desk in
-    let first : Stand = stand_as (is_told (g.D.Disk.view desk.archive.disk)) desk.archive.faults desk.state desk.stops desk.caught desk.made desk.short desk.archive.hand in
+    let first : Stand = stand_over g.D.Disk.view desk.intake desk.state (counts desk.stops desk.caught desk.made) in
     let opens : Opens (g.D.Disk.view c.args.disk) first = record {
       fresh = record { alone = refl; left = λ i. left_of (opened.left.0 i) (opened.left.1 i); stops = opened.left.2 };
       history = opened.seen;

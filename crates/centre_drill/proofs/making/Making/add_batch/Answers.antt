@@ -1,22 +1,12 @@
-use Rattle.std.proofs.Common.{◌≡◌, ◌∙◌, ◌++◌, ◌∷◌, [], ◌+◌, ◌*◌, List, ap, arith}
-use Rattle.access_digest.specs.Who.{ha1_of}
-use Rattle.epochs.specs.Lines.{LineValues}
-use Rattle.archive_entry.specs.declared.entry.Entry.{Entry}
+use Rattle.std.proofs.Common.{◌≡◌, ◌∙◌, ◌++◌, ◌∷◌, [], ◌+◌, ◌*◌, ap, arith}
 use Rattle.archive_entry.specs.declared.entry.Kind.TheVariants.{Batch}
-use Rattle.archive_state.specs.History.{live_of}
 use Rattle.archive_state.specs.Lawful.{is_next}
 use Rattle.archive_state.specs.Verdicts.{command, entry_of}
 use Rattle.centre_drill.specs.History.{batch_entry, epoch, feed}
 use Rattle.centre_drill.specs.Records.{made_body}
 use Rattle.centre_drill.proofs.Begun.{batch_added, batch_next, holds_all}
 use Rattle.centre_drill.proofs.Steps.{on_ok}
-use Rattle.centre_drill.proofs.Users.{both_known}
 use Rattle.centre_drill.proofs.making.Making.add_batch.Goals as goal
-
-pub post-requires-clause-known : goal.post-requires-clause-known
-post-requires-clause-known g c =
-    let holds = holds_all c.args.count c.requires.few c.args.k (λ more. omega (arith, c.requires.some)) in
-    ap (λ (h : List Entry). ha1_of (live_of h) feed) c.requires.begun ∙ ap (λ (live : List LineValues). ha1_of live feed) holds.live ∙ both_known
 
 pub post-requires-clause-next : goal.post-requires-clause-next
 post-requires-clause-next g c =

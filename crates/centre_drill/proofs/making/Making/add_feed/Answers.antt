@@ -1,17 +1,10 @@
 use Rattle.std.proofs.Common.{◌≡◌, ◌∙◌, ◌++◌, List, ℕ, ap}
-use Rattle.access_digest.specs.Who.{ha1_of}
-use Rattle.archive_entry.specs.declared.entry.Entry.{Entry}
 use Rattle.archive_entry.specs.declared.entry.Kind.TheVariants.{Revise}
-use Rattle.archive_state.specs.History.{live_of}
 use Rattle.archive_state.specs.Lawful.{is_next}
 use Rattle.archive_state.specs.Verdicts.{command, entry_of}
 use Rattle.centre_drill.specs.History.{epoch, feed_body, operator}
 use Rattle.centre_drill.proofs.Begun.{feed_next}
-use Rattle.centre_drill.proofs.Users.{first_known}
 use Rattle.centre_drill.proofs.making.Making.add_feed.Goals as goal
-
-pub post-requires-clause-known : goal.post-requires-clause-known
-post-requires-clause-known g c = ap (λ (h : List Entry). ha1_of (live_of h) operator) c.requires.first ∙ first_known
 
 pub post-requires-clause-next : goal.post-requires-clause-next
 post-requires-clause-next g c =

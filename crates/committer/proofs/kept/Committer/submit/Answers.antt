@@ -1,193 +1,253 @@
-use Rattle.std.proofs.Common.{◌≡◌, ◌∙◌, ◌++◌, ◌∷◌, [], ◌+◌, true, List, Some, Result, Ok, Err, ap, sym, subst, refl, inl, inr}
+use Rattle.std.proofs.Common.{◌≡◌, ◌∙◌, ℕ, List, Ok, Result, refl, sym, ap, subst}
+use Rattle.std.specs.Result.{IsErrOf}
+use Rattle.std.proofs.lemmas.List.{append-nil}
 use mathlib.Core.List.{IsPrefix}
 use Rattle.archive_entry.specs.declared.entry.Entry.{Entry}
-use Rattle.archive_history.proofs.Beginnings.{begins_on}
 use Rattle.archive_log.specs.Archive.{Archived}
-use Rattle.archive_state.specs.Lawful.{is_next}
-use Rattle.archive_state.specs.declared.verdict.Verdict.TheVariants.{Accept}
-use Rattle.desk_words.specs.Posting.{posted_entry, ruling, could_stop}
+use Rattle.archive_history.proofs.Beginnings.{begins_on}
+use Rattle.archive_post.specs.Posts.{Commits, IsTheOne, Posts}
+use Rattle.archive_post.specs.Waiting.{committed}
+use Rattle.archive_post.proofs.Calls.{not_stopped, quiet_call}
+use Rattle.archive_state.specs.declared.verdict.Verdict.{Verdict}
+use Rattle.archive_world.specs.Held.{GoesBy, LeavesHeld, held}
+use Rattle.archive_world.specs.Submitting.{post_events}
+use Rattle.archive_world.proofs.Posting.{held_is, makes_as, post_as, shown_again, unposted, unshown, unshown_again, waits_added}
+use Rattle.desk_words.specs.Posting.{posted_entry}
 use Rattle.desk_words.specs.Setting.{setting}
 use Rattle.desk_words.specs.declared.asking.Submitted.{Submitted}
 use Rattle.desk_words.specs.declared.asking.SubmitFault.{SubmitFault}
-use Rattle.desk_words.specs.declared.asking.SubmitFault.TheVariants.{Stopped, OutOfMemory as NoMemory}
-use Rattle.owned_desk.proofs.Posts.{entry_is, made_entry, entry_next, could}
-use Rattle.owned_desk.proofs.Submitting.{by_fault, not_stopped, handed_stop, kept_still, one_call}
-use Rattle.two_copies.specs.Tallies.{Tally}
-use Rattle.committer.specs.Rows.{SubmitsLocked, locked}
-use Rattle.committer.proofs.Submitted.{ruled_row, accepted_row, halted_row, unmade_row, unshown_row}
+use Rattle.desk_words.specs.declared.asking.SubmitFault.TheVariants.{Stopped}
+use Rattle.committer.specs.Rows.{Counted, SubmitsLocked, locked}
+use Rattle.committer.proofs.Submitted.{none_made, nothing_more, seen_row, unseen_row}
 use Rattle.committer.proofs.kept.Committer.submit.Goals as goal
 
 pub returns-in_err-flush-clause-disk : goal.returns-in_err-flush-clause-disk
-returns-in_err-flush-clause-disk g c =
-    let view = g.D.Disk.view in
-    let s = c.args.self.now in
-    let same = c.flush.ensures.same in
-    let mid = c.flush.new.self in
-    λ e one. kept_still view s.archive mid.archive s.latest s.latest e _ (ap (λ (a : Archived g.row.D.Denot). a.disk) same.0) (ap (λ (a : Archived g.row.D.Denot). a.faults) same.0) refl c.count-judged.ensures.rest (not_stopped c.from_residual.result c.from_residual.ensures.1)
+returns-in_err-flush-clause-disk g c = λ e one.
+    let first = c.args.self.now in
+    quiet_call g.D.Disk.view first.intake.archive c.flush.new.self.intake.archive (committed first.latest first.intake.waiting) e _ c.flush.ensures.same.0 c.count-judged.ensures.rest (not_stopped c.from_residual.result c.from_residual.ensures.1)
 
-pub returns-in_err-verdict-clause-disk : goal.returns-in_err-verdict-clause-disk
-returns-in_err-verdict-clause-disk g c =
+pub returns-in_err-verdict-clause-halted : goal.returns-in_err-verdict-clause-halted
+returns-in_err-verdict-clause-halted g c = λ before.
     let view = g.D.Disk.view in
-    let s = c.args.self.now in
-    let same = c.flush.ensures.same in
-    let mid = c.flush.new.self in
-    λ e one. kept_still view s.archive mid.archive s.latest s.latest e _ (ap (λ (a : Archived g.row.D.Denot). a.disk) same.0) (ap (λ (a : Archived g.row.D.Denot). a.faults) same.0) refl c.count-judged.ensures.rest (not_stopped c.from_residual-in_err-verdict.result c.from_residual-in_err-verdict.ensures.1)
-
-pub returns-in_err-entry-clause-disk : goal.returns-in_err-entry-clause-disk
-returns-in_err-entry-clause-disk g c =
-    let view = g.D.Disk.view in
-    let s = c.args.self.now in
-    let same = c.flush.ensures.same in
-    let mid = c.flush.new.self in
-    λ e one. kept_still view s.archive mid.archive s.latest s.latest e _ (ap (λ (a : Archived g.row.D.Denot). a.disk) same.0) (ap (λ (a : Archived g.row.D.Denot). a.faults) same.0) refl c.count-judged.ensures.rest (not_stopped c.from_residual-in_err-entry.result c.from_residual-in_err-entry.ensures.1)
-
-pub returns-in_default : goal.returns-in_default
-returns-in_default g c =
-    let view = g.D.Disk.view in
-    let s = c.args.self.now in
-    let t = c.args.shares.now in
+    let first = c.args.self.now in
+    let flushed = c.flush.new.self in
+    let posted = c.post.new.self in
     let p = c.args.posted.now in
     let m = c.args.moment in
-    let set = setting c.args.secret.now c.args.limits.now in
-    let same = c.flush.ensures.same in
-    let mid = c.flush.new.self in
-    let all = c.in_ok-flush.ensures.ok in
-    let v = c.in_ok-verdict.field-0.verdict in
-    let k = c.count-judged.result in
-    record {
-      row =
-          subst (λ (x : List Entry × List Entry). SubmitsLocked (locked s.latest s.front t) (locked x.0 x.1 t) p m set (Ok (record { verdict = v; judged = k; front = k })))
-          (λ i. (sym same.1 i, sym (all.0 ∙ same.1) i))
-          (ruled_row s.latest s.front t p m set v k c.count-judged.ensures.begins c.count-judged.ensures.count (c.in_ok-verdict.ensures.verdict ∙ ap (λ (es : List Entry). ruling es p m set) same.1) c.in_default.not-Accept);
-      disk = λ e one. kept_still view s.archive mid.archive s.latest s.latest e _ (ap (λ (a : Archived g.row.D.Denot). a.disk) same.0) (ap (λ (a : Archived g.row.D.Denot). a.faults) same.0) refl c.count-judged.ensures.rest (λ so. absurd (cc (so)));
-      halted = λ before. (same.0, same.1, refl);
-    }
+    let s = setting c.args.secret.now c.args.limits.now in
+    let h = committed first.latest first.intake.waiting in
+    let none = c.in_ok-flush.ensures.ok.1 in
+    let same : flushed.latest ≡ h = sym (append-nil flushed.latest) ∙ ap (committed flushed.latest) (sym none) ∙ c.flush.ensures.committed in
+    let row = subst (λ (l : List Entry). Posts flushed.intake posted.intake l p m s c.post.result) same c.post.ensures.row in
+    let calls = subst (λ (l : List Entry). (e : Entry) → IsTheOne (posted_entry l p m s) e → Commits view flushed.intake.archive posted.intake.archive l e (IsErrOf c.post.result Stopped)) same c.post.ensures.disk in
+    let stopped = ap (λ (a : Archived g.row.D.Denot). a.stopped) c.flush.ensures.same.0 ∙ before in
+    let nothing = nothing_more view flushed.intake posted.intake h c.args.shares.now c.post.new.shares p m s none c.post.result row c.post.ensures.counted calls stopped in
+    let made = none_made view flushed.intake posted.intake h c.args.shares.now c.post.new.shares p m s none c.post.result row c.post.ensures.counted calls stopped in
+    (c.post.ensures.silent stopped ∙ c.flush.ensures.same.0, ap (λ (l : List Entry). committed l posted.intake.waiting) (c.post.ensures.same.0 ∙ same) ∙ nothing, made)
 
-pub accept-requires-clause-next : goal.accept-requires-clause-next
-accept-requires-clause-next g c =
-    let p = c.args.posted.now in
-    let m = c.args.moment in
-    let set = setting c.args.secret.now c.args.limits.now in
-    let mid = c.flush.new.self in
-    let l = mid.latest in
-    let entry = c.in_ok-entry.entry in
-    let n = c.in-Accept.number in
-    let rules : ruling l p m set ≡ Accept n = sym c.in_ok-verdict.ensures.verdict ∙ c.in-Accept.is in
-    let who = c.in_ok-verdict.ensures.author n c.in-Accept.is in
-    let name = c.in_ok-verdict.field-0.author in
-    let same_entry = made_entry l p m set name n who rules entry c.in_ok-entry.ensures in
-    subst (λ (e : Entry). is_next l e ≡ true) (sym same_entry) (entry_next l p m set name n who rules c.requires)
-
-pub returns-in_err-accept-clause-row : goal.returns-in_err-accept-clause-row
-returns-in_err-accept-clause-row g c =
-    let s = c.args.self.now in
-    let t = c.args.shares.now in
-    let p = c.args.posted.now in
-    let m = c.args.moment in
-    let set = setting c.args.secret.now c.args.limits.now in
-    let same = c.flush.ensures.same in
-    let mid = c.flush.new.self in
-    let l = mid.latest in
-    let entry = c.in_ok-entry.entry in
-    let n = c.in-Accept.number in
-    let rules : ruling l p m set ≡ Accept n = sym c.in_ok-verdict.ensures.verdict ∙ c.in-Accept.is in
-    let who = c.in_ok-verdict.ensures.author n c.in-Accept.is in
-    let name = c.in_ok-verdict.field-0.author in
-    let same_entry = made_entry l p m set name n who rules entry c.in_ok-entry.ensures in
-    let posted : posted_entry s.latest p m set ≡ Some entry = ap (λ (es : List Entry). posted_entry es p m set) (sym same.1) ∙ (entry_is l p m set name n who rules ∙ ap Some (sym same_entry)) in
-    let x = c.accept.new.self in
-    let tally = c.accept.new.shares in
-    let r = c.from_residual-in_err-accept.result in
-    let f = c.in_err-accept.field-0.0 in
-    let grows : IsPrefix s.front x.front = begins_on s.front mid.front x.front c.flush.ensures.grows c.accept.ensures.grows in
-    by_fault r f (λ (y : Result Submitted SubmitFault). SubmitsLocked (locked s.latest s.front t) (locked x.latest x.front tally) p m set y) c.from_residual-in_err-accept.ensures.1
-    (λ is.
-    let st = c.accept.ensures.stopped (c.in_err-accept.was ∙ ap Err is) in
-    subst (λ (y : List Entry × List Entry × Tally). SubmitsLocked (locked s.latest s.front t) (locked y.0 y.1 y.2) p m set (Err Stopped))
-    (λ i. (sym (st.0 ∙ same.1) i, sym (st.1 ∙ same.1) i, sym st.2 i))
-    (halted_row s.latest s.front t p m set c.count-judged.ensures.begins (subst (λ (es : List Entry). could_stop es p m set ≡ true) same.1 (could l p m set name n who rules))))
-    (λ is.
-    elim (c.accept.ensures.short (c.in_err-accept.was ∙ ap Err is)) [
-      | inl none ↦
-          subst (λ (y : List Entry × Tally). SubmitsLocked (locked s.latest s.front t) (locked y.0 x.front y.1) p m set (Err NoMemory))
-          (λ i. (sym (none.0 ∙ same.1) i, sym none.1 i))
-          (unmade_row s.latest s.front t p m set x.front grows)
-      | inr one ↦
-          subst (λ (y : Tally). SubmitsLocked (locked s.latest s.front t) (locked x.latest x.front y) p m set (Err NoMemory))
-          (sym one.1)
-          (unshown_row s.latest s.front t p m set entry x.latest x.front grows posted (one.0 ∙ ap (λ (es : List Entry). es ++ entry ∷ []) same.1))
-    ])
-
-pub returns-in_err-accept-clause-disk : goal.returns-in_err-accept-clause-disk
-returns-in_err-accept-clause-disk g c =
+pub returns-in_err-flush-2-clause-row : goal.returns-in_err-flush-2-clause-row
+returns-in_err-flush-2-clause-row g c =
     let view = g.D.Disk.view in
-    let s = c.args.self.now in
+    let first = c.args.self.now in
+    let flushed = c.flush.new.self in
+    let posted = c.post.new.self in
     let p = c.args.posted.now in
     let m = c.args.moment in
-    let set = setting c.args.secret.now c.args.limits.now in
-    let same = c.flush.ensures.same in
-    let mid = c.flush.new.self in
-    let l = mid.latest in
-    let entry = c.in_ok-entry.entry in
-    let n = c.in-Accept.number in
-    let rules : ruling l p m set ≡ Accept n = sym c.in_ok-verdict.ensures.verdict ∙ c.in-Accept.is in
-    let who = c.in_ok-verdict.ensures.author n c.in-Accept.is in
-    let name = c.in_ok-verdict.field-0.author in
-    let same_entry = made_entry l p m set name n who rules entry c.in_ok-entry.ensures in
-    let posted : posted_entry s.latest p m set ≡ Some entry = ap (λ (es : List Entry). posted_entry es p m set) (sym same.1) ∙ (entry_is l p m set name n who rules ∙ ap Some (sym same_entry)) in
-    let x = c.accept.new.self in
-    λ e one. one_call view s.archive mid.archive x.archive l s.latest entry e (posted_entry s.latest p m set) _ _ same.0 same.1 posted one
-    (handed_stop c.from_residual-in_err-accept.result c.in_err-accept.field-0.0 c.accept.result c.from_residual-in_err-accept.ensures.1 c.in_err-accept.was) c.accept.ensures.disk
+    let s = setting c.args.secret.now c.args.limits.now in
+    let h = committed first.latest first.intake.waiting in
+    let none = c.in_ok-flush.ensures.ok.1 in
+    let same : flushed.latest ≡ h = sym (append-nil flushed.latest) ∙ ap (committed flushed.latest) (sym none) ∙ c.flush.ensures.committed in
+    let row = subst (λ (l : List Entry). Posts flushed.intake posted.intake l p m s c.post.result) same c.post.ensures.row in
+    let last = c.flush-2.new.self in
+    let was = c.in_ok-verdict.was in
+    let ruled = subst (Posts flushed.intake posted.intake h p m s) was row in
+    let counted = subst (Counted c.args.shares.now c.post.new.shares) was c.post.ensures.counted in
+    let all : committed last.latest last.intake.waiting ≡ committed h posted.intake.waiting = c.flush-2.ensures.committed ∙ ap (λ (l : List Entry). committed l posted.intake.waiting) (c.post.ensures.same.0 ∙ same) in
+    let grows : IsPrefix first.front last.front = begins_on first.front flushed.front last.front c.flush.ensures.grows (subst (λ (l : List Entry). IsPrefix l last.front) c.post.ensures.same.1 c.flush-2.ensures.grows) in
+    unseen_row flushed.intake posted.intake h first.front c.args.shares.now c.post.new.shares p m s none c.in_ok-verdict.verdict ruled counted (committed last.latest last.intake.waiting) last.front all grows
+    c.from_residual-in_err-flush-2.result c.from_residual-in_err-flush-2.ensures.1
+
+pub returns-in_err-flush-2-clause-halted : goal.returns-in_err-flush-2-clause-halted
+returns-in_err-flush-2-clause-halted g c = λ before.
+    let view = g.D.Disk.view in
+    let first = c.args.self.now in
+    let flushed = c.flush.new.self in
+    let posted = c.post.new.self in
+    let p = c.args.posted.now in
+    let m = c.args.moment in
+    let s = setting c.args.secret.now c.args.limits.now in
+    let h = committed first.latest first.intake.waiting in
+    let none = c.in_ok-flush.ensures.ok.1 in
+    let same : flushed.latest ≡ h = sym (append-nil flushed.latest) ∙ ap (committed flushed.latest) (sym none) ∙ c.flush.ensures.committed in
+    let row = subst (λ (l : List Entry). Posts flushed.intake posted.intake l p m s c.post.result) same c.post.ensures.row in
+    let calls = subst (λ (l : List Entry). (e : Entry) → IsTheOne (posted_entry l p m s) e → Commits view flushed.intake.archive posted.intake.archive l e (IsErrOf c.post.result Stopped)) same c.post.ensures.disk in
+    let last = c.flush-2.new.self in
+    let was = c.in_ok-verdict.was in
+    let ruled = subst (Posts flushed.intake posted.intake h p m s) was row in
+    let counted = subst (Counted c.args.shares.now c.post.new.shares) was c.post.ensures.counted in
+    let all : committed last.latest last.intake.waiting ≡ committed h posted.intake.waiting = c.flush-2.ensures.committed ∙ ap (λ (l : List Entry). committed l posted.intake.waiting) (c.post.ensures.same.0 ∙ same) in
+    let stopped = ap (λ (a : Archived g.row.D.Denot). a.stopped) c.flush.ensures.same.0 ∙ before in
+    let nothing = nothing_more view flushed.intake posted.intake h c.args.shares.now c.post.new.shares p m s none c.post.result row c.post.ensures.counted calls stopped in
+    let made = none_made view flushed.intake posted.intake h c.args.shares.now c.post.new.shares p m s none c.post.result row c.post.ensures.counted calls stopped in
+    (c.flush-2.ensures.same.0 ∙ c.post.ensures.silent stopped ∙ c.flush.ensures.same.0, all ∙ nothing, made)
 
 pub returns-clause-row : goal.returns-clause-row
 returns-clause-row g c =
-    let s = c.args.self.now in
-    let t = c.args.shares.now in
-    let p = c.args.posted.now in
-    let m = c.args.moment in
-    let set = setting c.args.secret.now c.args.limits.now in
-    let same = c.flush.ensures.same in
-    let mid = c.flush.new.self in
-    let l = mid.latest in
-    let entry = c.in_ok-entry.entry in
-    let n = c.in-Accept.number in
-    let rules : ruling l p m set ≡ Accept n = sym c.in_ok-verdict.ensures.verdict ∙ c.in-Accept.is in
-    let who = c.in_ok-verdict.ensures.author n c.in-Accept.is in
-    let name = c.in_ok-verdict.field-0.author in
-    let same_entry = made_entry l p m set name n who rules entry c.in_ok-entry.ensures in
-    let posted : posted_entry s.latest p m set ≡ Some entry = ap (λ (es : List Entry). posted_entry es p m set) (sym same.1) ∙ (entry_is l p m set name n who rules ∙ ap Some (sym same_entry)) in
-    let x = c.accept.new.self in
-    let tally = c.accept.new.shares in
-    let k = c.count-judged.result in
-    let ok = c.in_ok-accept.ensures.ok in
-    let grows : IsPrefix s.front x.latest = subst (λ (es : List Entry). IsPrefix s.front es) ok.1 (begins_on s.front mid.front x.front c.flush.ensures.grows c.accept.ensures.grows) in
-    subst (λ (y : List Entry × Tally). SubmitsLocked (locked s.latest s.front t) (locked x.latest y.0 y.1) p m set (Ok (record { verdict = Accept n; judged = k; front = k + 1 })))
-    (λ i. (sym ok.1 i, sym ok.2 i))
-    (accepted_row s.latest s.front t p m set entry n k x.latest grows posted (sym (ap (λ (es : List Entry). ruling es p m set) (sym same.1) ∙ rules)) c.count-judged.ensures.count (ok.0 ∙ ap (λ (es : List Entry). es ++ entry ∷ []) same.1))
-
-pub returns-clause-disk : goal.returns-clause-disk
-returns-clause-disk g c =
     let view = g.D.Disk.view in
-    let s = c.args.self.now in
+    let first = c.args.self.now in
+    let flushed = c.flush.new.self in
+    let posted = c.post.new.self in
     let p = c.args.posted.now in
     let m = c.args.moment in
-    let set = setting c.args.secret.now c.args.limits.now in
-    let same = c.flush.ensures.same in
-    let mid = c.flush.new.self in
-    let l = mid.latest in
-    let entry = c.in_ok-entry.entry in
-    let n = c.in-Accept.number in
-    let rules : ruling l p m set ≡ Accept n = sym c.in_ok-verdict.ensures.verdict ∙ c.in-Accept.is in
-    let who = c.in_ok-verdict.ensures.author n c.in-Accept.is in
-    let name = c.in_ok-verdict.field-0.author in
-    let same_entry = made_entry l p m set name n who rules entry c.in_ok-entry.ensures in
-    let posted : posted_entry s.latest p m set ≡ Some entry = ap (λ (es : List Entry). posted_entry es p m set) (sym same.1) ∙ (entry_is l p m set name n who rules ∙ ap Some (sym same_entry)) in
-    let x = c.accept.new.self in
-    λ e one. one_call view s.archive mid.archive x.archive l s.latest entry e (posted_entry s.latest p m set) _ _ same.0 same.1 posted one (λ so. absurd (cc (so))) c.accept.ensures.disk
+    let s = setting c.args.secret.now c.args.limits.now in
+    let h = committed first.latest first.intake.waiting in
+    let none = c.in_ok-flush.ensures.ok.1 in
+    let same : flushed.latest ≡ h = sym (append-nil flushed.latest) ∙ ap (committed flushed.latest) (sym none) ∙ c.flush.ensures.committed in
+    let row = subst (λ (l : List Entry). Posts flushed.intake posted.intake l p m s c.post.result) same c.post.ensures.row in
+    let last = c.flush-2.new.self in
+    let was = c.in_ok-verdict.was in
+    let ruled = subst (Posts flushed.intake posted.intake h p m s) was row in
+    let counted = subst (Counted c.args.shares.now c.post.new.shares) was c.post.ensures.counted in
+    let all : committed last.latest last.intake.waiting ≡ committed h posted.intake.waiting = c.flush-2.ensures.committed ∙ ap (λ (l : List Entry). committed l posted.intake.waiting) (c.post.ensures.same.0 ∙ same) in
+    let grows : IsPrefix first.front last.front = begins_on first.front flushed.front last.front c.flush.ensures.grows (subst (λ (l : List Entry). IsPrefix l last.front) c.post.ensures.same.1 c.flush-2.ensures.grows) in
+    subst (λ (x : ℕ × ℕ). SubmitsLocked (locked h first.front c.args.shares.now) (locked (committed last.latest last.intake.waiting) last.front c.post.new.shares) p m s (Ok (record { verdict = c.in_ok-verdict.verdict; judged = x.0; front = x.1 })))
+    (λ i. (sym c.count-judged.ensures.count i, sym c.count.ensures.count i))
+    (seen_row flushed.intake posted.intake h first.front c.args.shares.now c.post.new.shares p m s none c.in_ok-verdict.verdict ruled counted (committed last.latest last.intake.waiting) last.front all grows
+    (c.in_ok-flush-2.ensures.ok.0 ∙ sym (append-nil last.latest) ∙ ap (committed last.latest) (sym c.in_ok-flush-2.ensures.ok.1)))
 
-pub returns-in_err-accept-clause-halted : goal.returns-in_err-accept-clause-halted
-returns-in_err-accept-clause-halted g c before =
-    let same = c.flush.ensures.same in
-    let halted = c.accept.ensures.halted (ap (λ (a : Archived g.row.D.Denot). a.stopped) same.0 ∙ before) in
-    let stopped = c.accept.ensures.stopped halted.0 in
-    (halted.1 ∙ same.0, stopped.0 ∙ same.1, ap (λ (t : Tally). t.made) stopped.2)
+pub returns-clause-halted : goal.returns-clause-halted
+returns-clause-halted g c = λ before.
+    let view = g.D.Disk.view in
+    let first = c.args.self.now in
+    let flushed = c.flush.new.self in
+    let posted = c.post.new.self in
+    let p = c.args.posted.now in
+    let m = c.args.moment in
+    let s = setting c.args.secret.now c.args.limits.now in
+    let h = committed first.latest first.intake.waiting in
+    let none = c.in_ok-flush.ensures.ok.1 in
+    let same : flushed.latest ≡ h = sym (append-nil flushed.latest) ∙ ap (committed flushed.latest) (sym none) ∙ c.flush.ensures.committed in
+    let row = subst (λ (l : List Entry). Posts flushed.intake posted.intake l p m s c.post.result) same c.post.ensures.row in
+    let calls = subst (λ (l : List Entry). (e : Entry) → IsTheOne (posted_entry l p m s) e → Commits view flushed.intake.archive posted.intake.archive l e (IsErrOf c.post.result Stopped)) same c.post.ensures.disk in
+    let last = c.flush-2.new.self in
+    let was = c.in_ok-verdict.was in
+    let ruled = subst (Posts flushed.intake posted.intake h p m s) was row in
+    let counted = subst (Counted c.args.shares.now c.post.new.shares) was c.post.ensures.counted in
+    let all : committed last.latest last.intake.waiting ≡ committed h posted.intake.waiting = c.flush-2.ensures.committed ∙ ap (λ (l : List Entry). committed l posted.intake.waiting) (c.post.ensures.same.0 ∙ same) in
+    let stopped = ap (λ (a : Archived g.row.D.Denot). a.stopped) c.flush.ensures.same.0 ∙ before in
+    let nothing = nothing_more view flushed.intake posted.intake h c.args.shares.now c.post.new.shares p m s none c.post.result row c.post.ensures.counted calls stopped in
+    let made = none_made view flushed.intake posted.intake h c.args.shares.now c.post.new.shares p m s none c.post.result row c.post.ensures.counted calls stopped in
+    (c.flush-2.ensures.same.0 ∙ c.post.ensures.silent stopped ∙ c.flush.ensures.same.0, all ∙ nothing, made)
+
+pub returns-in_err-flush-clause-steps : goal.returns-in_err-flush-clause-steps
+returns-in_err-flush-clause-steps g c =
+    let view = g.D.Disk.view in
+    let first = c.args.self.now in
+    let last = c.flush.new.self in
+    let d = first.intake.archive.disk in
+    let hand = first.intake.archive.hand in
+    let h = committed first.latest first.intake.waiting in
+    let before = c.count-judged.ensures in
+    let same = c.flush.ensures.same.0 in
+    let p = posted_entry h c.args.posted.now c.args.moment (setting c.args.secret.now c.args.limits.now) in
+    let old = held h first.front hand in
+    makes_as view d d last.intake.archive.disk old old (held (committed last.latest last.intake.waiting) last.front last.intake.archive.hand) p c.from_residual.result (ap (λ (a : Archived g.row.D.Denot). a.disk) same)
+    (held_is (committed last.latest last.intake.waiting) last.front h first.front last.intake.archive.hand hand c.flush.ensures.committed c.in_err-flush.ensures.err (ap (λ (a : Archived g.row.D.Denot). a.hand) same))
+    (unshown view g.met.D.Disk.honest d d h first.front hand before.begins before.left p c.from_residual.result c.from_residual.ensures.1)
+
+pub returns-in_err-verdict-clause-steps : goal.returns-in_err-verdict-clause-steps
+returns-in_err-verdict-clause-steps g c =
+    let view = g.D.Disk.view in
+    let first = c.args.self.now in
+    let flushed = c.flush.new.self in
+    let posted = c.post.new.self in
+    let d = first.intake.archive.disk in
+    let mid = posted.intake.archive.disk in
+    let hand = first.intake.archive.hand in
+    let behind = posted.intake.archive.hand in
+    let waiting = posted.intake.waiting in
+    let p = c.args.posted.now in
+    let m = c.args.moment in
+    let s = setting c.args.secret.now c.args.limits.now in
+    let h = committed first.latest first.intake.waiting in
+    let before = c.count-judged.ensures in
+    let none = c.in_ok-flush.ensures.ok.1 in
+    let same : flushed.latest ≡ h = sym (append-nil flushed.latest) ∙ ap (committed flushed.latest) (sym none) ∙ c.flush.ensures.committed in
+    let goes = post_as view flushed.intake.archive.disk d mid flushed.latest h flushed.intake.archive.hand hand waiting behind p m s c.post.result
+    (ap (λ (a : Archived g.row.D.Denot). a.disk) c.flush.ensures.same.0) same (ap (λ (a : Archived g.row.D.Denot). a.hand) c.flush.ensures.same.0) c.post.ensures.steps in
+    let f = c.in_err-verdict.field-0.0 in
+    let e = posted_entry h p m s in
+    makes_as view d mid mid (held h first.front hand) (held (committed h waiting) h behind) (held (committed posted.latest waiting) posted.front behind) e c.from_residual-in_err-verdict.result refl
+    (held_is (committed posted.latest waiting) posted.front (committed h waiting) h behind behind (ap (λ (l : List Entry). committed l waiting) (c.post.ensures.same.0 ∙ same)) (c.post.ensures.same.1 ∙ c.in_ok-flush.ensures.ok.0 ∙ same) refl)
+    (unposted view g.met.D.Disk.honest d mid h first.front hand before.begins before.left e waiting behind f
+    (subst (λ (r : Result Verdict SubmitFault). GoesBy (view d) (view mid) (held h h hand) (held (committed h waiting) h behind) (post_events r hand e)) c.in_err-verdict.was goes)
+    c.from_residual-in_err-verdict.result c.from_residual-in_err-verdict.ensures.1)
+
+pub returns-in_err-flush-2-clause-steps : goal.returns-in_err-flush-2-clause-steps
+returns-in_err-flush-2-clause-steps g c =
+    let view = g.D.Disk.view in
+    let first = c.args.self.now in
+    let flushed = c.flush.new.self in
+    let posted = c.post.new.self in
+    let last = c.flush-2.new.self in
+    let d = first.intake.archive.disk in
+    let mid = posted.intake.archive.disk in
+    let hand = first.intake.archive.hand in
+    let behind = posted.intake.archive.hand in
+    let waiting = posted.intake.waiting in
+    let p = c.args.posted.now in
+    let m = c.args.moment in
+    let s = setting c.args.secret.now c.args.limits.now in
+    let h = committed first.latest first.intake.waiting in
+    let before = c.count-judged.ensures in
+    let none = c.in_ok-flush.ensures.ok.1 in
+    let same : flushed.latest ≡ h = sym (append-nil flushed.latest) ∙ ap (committed flushed.latest) (sym none) ∙ c.flush.ensures.committed in
+    let goes = post_as view flushed.intake.archive.disk d mid flushed.latest h flushed.intake.archive.hand hand waiting behind p m s c.post.result
+    (ap (λ (a : Archived g.row.D.Denot). a.disk) c.flush.ensures.same.0) same (ap (λ (a : Archived g.row.D.Denot). a.hand) c.flush.ensures.same.0) c.post.ensures.steps in
+    let v = c.in_ok-verdict.verdict in
+    let e = posted_entry h p m s in
+    let again = c.flush-2.ensures.same.0 in
+    makes_as view d mid last.intake.archive.disk (held h first.front hand) (held (committed h waiting) h behind) (held (committed last.latest last.intake.waiting) last.front last.intake.archive.hand) e c.from_residual-in_err-flush-2.result
+    (ap (λ (a : Archived g.row.D.Denot). a.disk) again)
+    (held_is (committed last.latest last.intake.waiting) last.front (committed h waiting) h last.intake.archive.hand behind (c.flush-2.ensures.committed ∙ ap (λ (l : List Entry). committed l waiting) (c.post.ensures.same.0 ∙ same))
+    (c.in_err-flush-2.ensures.err ∙ c.post.ensures.same.1 ∙ c.in_ok-flush.ensures.ok.0 ∙ same) (ap (λ (a : Archived g.row.D.Denot). a.hand) again))
+    (unshown_again view g.met.D.Disk.honest d mid h first.front hand before.begins before.left e waiting behind v
+    (subst (λ (r : Result Verdict SubmitFault). GoesBy (view d) (view mid) (held h h hand) (held (committed h waiting) h behind) (post_events r hand e)) c.in_ok-verdict.was goes)
+    c.from_residual-in_err-flush-2.result c.from_residual-in_err-flush-2.ensures.1)
+
+pub returns-clause-steps : goal.returns-clause-steps
+returns-clause-steps g c =
+    let view = g.D.Disk.view in
+    let first = c.args.self.now in
+    let flushed = c.flush.new.self in
+    let posted = c.post.new.self in
+    let last = c.flush-2.new.self in
+    let d = first.intake.archive.disk in
+    let mid = posted.intake.archive.disk in
+    let hand = first.intake.archive.hand in
+    let behind = posted.intake.archive.hand in
+    let waiting = posted.intake.waiting in
+    let p = c.args.posted.now in
+    let m = c.args.moment in
+    let s = setting c.args.secret.now c.args.limits.now in
+    let h = committed first.latest first.intake.waiting in
+    let before = c.count-judged.ensures in
+    let none = c.in_ok-flush.ensures.ok.1 in
+    let same : flushed.latest ≡ h = sym (append-nil flushed.latest) ∙ ap (committed flushed.latest) (sym none) ∙ c.flush.ensures.committed in
+    let goes = post_as view flushed.intake.archive.disk d mid flushed.latest h flushed.intake.archive.hand hand waiting behind p m s c.post.result
+    (ap (λ (a : Archived g.row.D.Denot). a.disk) c.flush.ensures.same.0) same (ap (λ (a : Archived g.row.D.Denot). a.hand) c.flush.ensures.same.0) c.post.ensures.steps in
+    let row = subst (λ (l : List Entry). Posts flushed.intake posted.intake l p m s c.post.result) same c.post.ensures.row in
+    let v = c.in_ok-verdict.verdict in
+    let e = posted_entry h p m s in
+    let again = c.flush-2.ensures.same.0 in
+    let told : Submitted = record { verdict = v; judged = c.count-judged.result; front = c.count.result } in
+    let all : committed last.latest last.intake.waiting ≡ committed h waiting = c.flush-2.ensures.committed ∙ ap (λ (l : List Entry). committed l waiting) (c.post.ensures.same.0 ∙ same) in
+    let shown : last.front ≡ committed last.latest last.intake.waiting = c.in_ok-flush-2.ensures.ok.0 ∙ sym (append-nil last.latest) ∙ ap (committed last.latest) (sym c.in_ok-flush-2.ensures.ok.1) in
+    makes_as view d mid last.intake.archive.disk (held h first.front hand) (held (committed h waiting) (committed h waiting) behind) (held (committed last.latest last.intake.waiting) last.front last.intake.archive.hand) e (Ok told)
+    (ap (λ (a : Archived g.row.D.Denot). a.disk) again)
+    (held_is (committed last.latest last.intake.waiting) last.front (committed h waiting) (committed h waiting) last.intake.archive.hand behind all (shown ∙ all) (ap (λ (a : Archived g.row.D.Denot). a.hand) again))
+    (shown_again view g.met.D.Disk.honest d mid h first.front hand before.begins before.left e waiting behind told
+    (waits_added flushed.intake posted.intake h p m s v none (subst (Posts flushed.intake posted.intake h p m s) c.in_ok-verdict.was row))
+    (posted.told_is ∙ sym first.told_is)
+    (subst (λ (r : Result Verdict SubmitFault). GoesBy (view d) (view mid) (held h h hand) (held (committed h waiting) h behind) (post_events r hand e)) c.in_ok-verdict.was goes)
+    (subst (λ (l : List Entry). LeavesHeld (view mid) (held (committed l waiting) l behind)) same c.post.ensures.left))

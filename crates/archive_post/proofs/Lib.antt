@@ -1,0 +1,6 @@
+pub mod Calls
+pub mod Growth
+pub mod Leaving
+pub mod Left
+pub mod Posts
+pub mod Standing

@@ -1,0 +1,4 @@
+pub mod Intake
+pub mod Leaving
+pub mod Posts
+pub mod Waiting

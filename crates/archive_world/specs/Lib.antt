@@ -1,0 +1,4 @@
+pub mod Held
+pub mod Submitting
+pub mod Worked
+pub mod World
