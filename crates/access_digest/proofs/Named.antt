@@ -8,7 +8,9 @@ use Rattle.std.proofs.lemmas.Slice.Eq.{bytes_eq-Decides}
 use Rattle.epochs.specs.Kinds.{Text}
 use Rattle.epochs.specs.Lines.{LineValues}
 use Rattle.exact_time.specs.declared.moment.Moment.{Moment}
+use Rattle.http_digest.proofs.AnswerLaw.{answer_reads_back}
 use Rattle.http_digest.proofs.HeaderLaw.{one_answer}
+use Rattle.http_digest.specs.Answers.{authorization_text, answer_meant}
 use Rattle.http_digest.specs.Nonces.{issue_of, second_of}
 use Rattle.http_digest.specs.Parts.{IsAuthorization, IsAuthFault}
 use Rattle.http_digest.specs.Responses.{response_of}
@@ -18,7 +20,7 @@ use Rattle.http_digest.specs.declared.authorization.Credentials.{Credentials}
 use Rattle.http_digest.specs.declared.secret.Secret.{Secret}
 use Rattle.access_digest.specs.declared.denial.Denial.TheVariants.{Stale, UnknownUser, WrongResponse, Unreadable}
 use Rattle.access_digest.specs.Who.{reading_of, for_target, authorized, lifetime, is_fresh, ha1_of, denial_by, named, who_by, who_of}
-use Rattle.access_digest.specs.WhoLaw.{IsUsable, Names}
+use Rattle.access_digest.specs.WhoLaw.{IsUsable, Names, IsAnswerOf}
 
 -- what is read, the header spells, and the other way round
 read_spells : (header : List ℕ) (a : Authorization) → reading_of header ≡ Ok a → IsAuthorization header a
@@ -118,3 +120,18 @@ module _ (live : List LineValues) (asked : Credentials) (now : Moment) (secret :
       ∙ ap (λ o. named a.user (denial_by o asked a)) lives
       ∙ ap (named a.user) (cond-true _ _ _ ((bytes_eq-Decides a.response (response_of n.ha1 asked.method asked.target a.nonce a.auth)).1 n.answers))
       ∙ ap Ok n.user_is
+
+  -- an answer to a challenge proves its user
+  pub answer_names : IsAnswerOf live asked now secret user → who_of live asked now secret ≡ Ok user
+  answer_names h = names_who (record {
+    header = authorization_text user h.ha1 asked.method asked.target h.nonce;
+    there = h.there;
+    read = answer_meant user h.ha1 asked.method asked.target h.nonce;
+    spells = answer_reads_back user h.ha1 asked.method asked.target h.nonce h.user_is h.target_is h.nonce_is;
+    for_target = refl;
+    user_is = refl;
+    usable = h.usable;
+    ha1 = h.ha1;
+    lives = h.lives;
+    answers = refl;
+  })

@@ -1,8 +1,9 @@
 -- Whom credentials name, in the subject's words.
-use Rattle.std.specs.Prelude.{◌≡◌, ℕ, ◌+◌, ◌≤◌, List, Some}
+use Rattle.std.specs.Prelude.{◌≡◌, ℕ, ◌+◌, ◌≤◌, true, List, Some}
 use Rattle.epochs.specs.Kinds.{Text}
 use Rattle.epochs.specs.Lines.{LineValues}
 use Rattle.exact_time.specs.declared.moment.Moment.{Moment}
+use Rattle.http_digest.specs.Answers.{are_visible, authorization_text}
 use Rattle.http_digest.specs.Nonces.{issue_of, second_of}
 use Rattle.http_digest.specs.Parts.{IsAuthorization}
 use Rattle.http_digest.specs.Responses.{response_of}
@@ -33,3 +34,14 @@ pub record Names (live : List LineValues) (asked : Credentials) (now : Moment) (
   pub ha1 : List ℕ
   pub lives : ha1_of live user ≡ Some ha1
   pub answers : read.response ≡ response_of ha1 asked.method asked.target read.nonce read.auth
+
+-- the header is what a client with this name and this live user's HA1 answers to a challenge whose nonce may be used
+pub record IsAnswerOf (live : List LineValues) (asked : Credentials) (now : Moment) (secret : Secret) (user : Text) : Type 0 where
+  pub ha1 : List ℕ
+  pub nonce : List ℕ
+  pub there : asked.header ≡ Some (authorization_text user ha1 asked.method asked.target nonce)
+  pub user_is : are_visible user ≡ true
+  pub target_is : are_visible asked.target ≡ true
+  pub nonce_is : are_visible nonce ≡ true
+  pub lives : ha1_of live user ≡ Some ha1
+  pub usable : IsUsable secret nonce now

@@ -11,7 +11,7 @@ ghost use Rattle.mseed_header.specs.declared.row.Row.{Row};
 ghost use Rattle.access_digest.specs.Access.{grants_of, is_touched, is_unrestricted, may_have};
 ghost use Rattle.access_digest.specs.AccessLaw.{IsTouched, MayHave};
 ghost use Rattle.access_digest.specs.Who.{who_of};
-ghost use Rattle.access_digest.specs.WhoLaw.{Names};
+ghost use Rattle.access_digest.specs.WhoLaw.{IsAnswerOf, Names};
 ghost use Rattle.exact_time.specs.declared.moment.Moment.{Moment};
 ghost use Rattle.http_digest.specs.declared.authorization.Credentials.{Credentials};
 ghost use Rattle.http_digest.specs.declared.secret.Secret.{Secret};
@@ -43,4 +43,11 @@ pub fn restrictions_and_own_grants_decide()
 pub fn credentials_name_whom_they_prove()
     ensures { (live : List LineValues) (asked : Credentials) (now : Moment) (secret : Secret) (user : Text)
         → (who_of live asked now secret ≡ Ok user) ↔ Names live asked now secret user }
+{}
+
+/// What a client answers to a challenge, by `http_digest::authorization_of`, names its user, where that user lives with that HA1
+/// and the nonce may be used.
+pub fn an_answer_names_its_user()
+    ensures { (live : List LineValues) (asked : Credentials) (now : Moment) (secret : Secret) (user : Text)
+        → IsAnswerOf live asked now secret user → who_of live asked now secret ≡ Ok user }
 {}

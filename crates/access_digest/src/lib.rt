@@ -28,7 +28,7 @@ pub use access::may;
 pub use callers::who;
 pub use denial::{Denial, WhoFault};
 pub use law::{
-    credentials_name_whom_they_prove, may_have_in_the_subjects_words,
+    an_answer_names_its_user, credentials_name_whom_they_prove, may_have_in_the_subjects_words,
     restrictions_and_own_grants_decide,
 };
 pub use pass::Pass;

@@ -7,6 +7,7 @@ use Rattle.centre.specs.declared.objects.Outside.{Outside}
 pub record HasNoMore (outside : Outside) : Type 0 where
   pub second : outside.second ≡ None
   pub address : outside.address ≡ None
+  pub dials : outside.dials ≡ false
   pub workers : outside.workers ≡ 1
   pub sessions : outside.sessions ≡ None
 
@@ -22,6 +23,7 @@ pub record NamesService (outside : Outside) (w : ServeWords) : Type 0 where
   pub may_make_is : outside.may_make ≡ false
   pub second : outside.second ≡ None
   pub address : outside.address ≡ Some w.address
+  pub dials : outside.dials ≡ false
   pub workers : outside.workers ≡ w.workers
   pub sessions : outside.sessions ≡ w.sessions
 

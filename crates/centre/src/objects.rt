@@ -12,8 +12,10 @@ pub struct Outside {
     pub may_make: bool,
     /// The path of a second file: no command has one yet.
     pub second: Option<Text>,
-    /// The address at which the first worker listens. None where nothing is listened at.
+    /// The address at which the first worker listens, or which it dials. None where there is neither.
     pub address: Option<Text>,
+    /// Whether the first worker's port dials that address: no command does yet.
+    pub dials: bool,
     /// How many workers there are, from 1 to 16.
     pub workers: u8,
     /// Behind how many sessions each worker ends, if it does.

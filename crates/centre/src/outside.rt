@@ -18,6 +18,7 @@ fn with_journal(journal: Option<Text>, may_make: bool) -> Outside
         may_make,
         second: None,
         address: None,
+        dials: false,
         workers: 1,
         sessions: None,
     }
@@ -40,6 +41,7 @@ fn with_service(alloc: Global, arguments: &ServeArguments) -> Result<Outside, Ou
         may_make: false,
         second: None,
         address: Some(path_of(alloc, arguments.address)?),
+        dials: false,
         workers: arguments.workers as u8,
         sessions: arguments.sessions,
     })

@@ -58,6 +58,7 @@ impl<D: Disk, J: Naming, T: Carries<J> + Drop, L: Ledger, S: Ledger> Committer<D
         ensures count { result ≡ length (committed self.now.latest self.now.intake.waiting) }
         ensures lawful { IsLawful (committed self.now.latest self.now.intake.waiting) }
         ensures stands { WhereTold (D.view self.now.intake.archive.disk) (Stands D.view self.now.intake.archive) }
+        ensures kept { WhereTold (D.view self.now.intake.archive.disk) (self.now.intake.archive.history ≡ committed self.now.latest self.now.intake.waiting) }
         ensures few { length (committed self.now.latest self.now.intake.waiting) ≤ length self.now.front + 1 }
         ensures hand { is_some self.now.intake.archive.hand ≡ self.now.intake.archive.stopped }
         ensures left { LeavesHeld (D.view self.now.intake.archive.disk)

@@ -1,3 +1,4 @@
+pub mod AnswerLaw
 pub mod ItemsLeft
 pub mod ItemsRead
 pub mod ScanSteps

@@ -1,3 +1,4 @@
+pub mod Answers
 pub mod Challenge
 pub mod Credentials
 pub mod Items

@@ -1,6 +1,7 @@
 //! Laws of headers and nonces.
 ghost use Rattle.std.specs.Prelude.{◌≡◌, List, ℕ, Result};
 ghost use Rattle.list_laws.specs.Only.{IsOnly};
+ghost use Rattle.http_digest.specs.Answers.{AnswerReadsBack};
 ghost use Rattle.http_digest.specs.Law.{TellsSecond};
 ghost use Rattle.http_digest.specs.Parts.{IsAuthorization, IsAuthFault};
 ghost use Rattle.http_digest.specs.declared.authorization.AuthFault.{AuthFault};
@@ -15,4 +16,9 @@ pub fn a_value_is_one_authorization_or_none()
 /// A nonce of a second tells that second to who has the secret, and no other text tells one.
 pub fn a_nonce_tells_its_second()
     ensures { (secret : Secret) → TellsSecond secret }
+{}
+
+/// What a client answers to a challenge spells the parts that it was made of.
+pub fn an_answer_reads_back()
+    ensures { AnswerReadsBack }
 {}

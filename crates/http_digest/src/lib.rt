@@ -7,12 +7,15 @@
 //! prints, and which are valid; RFC 2617, section 3.2.2). [`response_of`] is what a client has to answer
 //! (`specs/Responses.antt`; section 3.2.2.1). [`nonce_of`] and [`issue_of`] make a nonce and read its second
 //! (`specs/Nonces.antt`), [`challenge`] asks a client for credentials, and [`Challenge`] is what a header
-//! WWW-Authenticate says (`specs/Challenge.antt`; section 3.2.1). But for the reader nothing takes memory.
+//! WWW-Authenticate says (`specs/Challenge.antt`; section 3.2.1). [`authorization_of`] is what a client answers
+//! (`specs/Answers.antt`). But for the reader and that answer nothing takes memory.
 //!
 //! The digest is `md5` as the crate `md5` defines it, and digits are those of the crate `hex`. That a value
-//! spells one authorization or none, and that a nonce tells its second, are laws (`src/law.rt`).
+//! spells one authorization or none, that a nonce tells its second, and that an answer reads back are laws
+//! (`src/law.rt`).
 #![tactic(auto)]
 
+mod answering;
 mod authorization;
 mod challenges;
 mod item;
@@ -25,9 +28,12 @@ mod same;
 mod scan;
 mod secret;
 
+pub use answering::authorization_of;
 pub use authorization::{AuthFault, AuthPart, Authorization, Credentials};
 pub use challenges::Challenge;
-pub use law::{a_nonce_tells_its_second, a_value_is_one_authorization_or_none};
+pub use law::{
+    a_nonce_tells_its_second, a_value_is_one_authorization_or_none, an_answer_reads_back,
+};
 pub use nonce::{challenge, issue_of, nonce_of, second_of};
 pub use reading::read_authorization;
 pub use response::response_of;

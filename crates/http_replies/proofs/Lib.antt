@@ -2,5 +2,5 @@ mod Examples
 mod InTwo
 mod Joins
 mod PlainBytes
-mod ReadBack
+pub mod ReadBack
 mod StatusFacts

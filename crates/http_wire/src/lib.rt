@@ -19,7 +19,9 @@
 //! tested and parsed. A head with more fields than are read is parsed once more, with room for all, since
 //! a bad field behind the last that is read makes it no head. Bytes are taken straight into the inbox,
 //! behind what it holds: its room is cleared once, and lent again until it is full, so a client may send
-//! a byte at a time. For a body the room is made before, and the body is copied from there once.
+//! a byte at a time; as much more is made as came. The body is copied from there once.
+//!
+//! [`Inbox`] and [`fill`] serve for replies too, which `http_answers` reads.
 #![tactic(auto)]
 
 mod asking;
@@ -50,4 +52,5 @@ pub use law::{
 pub use reading::read_request;
 pub use request::Request;
 pub use streams::{Link, MemoryLink, Sink, Source, Stream, put_all};
+pub use taking::{TakeStop, fill};
 pub use turn::Turn;

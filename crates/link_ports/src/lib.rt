@@ -6,7 +6,8 @@
 //! link can't be dropped but by giving it back, since the type that a port gives promises no `Drop`.
 //!
 //! [`MemoryPort`] is exact (`specs/Memory.antt`): which call fails is said by its number, and which link is given by its
-//! place. [`TcpPort`] listens at one address and gives a [`TcpLink`] for each connection; these tell nothing but their faults.
+//! place. [`TcpPort`] listens at one address and gives a [`TcpLink`] for each connection, or dials one peer, once for each call;
+//! these tell nothing but their faults.
 //! [`TellingPort`] is any port, and writes a line where it fails.
 #![tactic(auto)]
 
@@ -15,6 +16,7 @@ mod port;
 mod tcp_link;
 mod tcp_port;
 mod telling;
+mod way;
 
 pub use memory::{MemoryPort, Returned};
 pub use port::Port;

@@ -4,6 +4,7 @@ ghost use Rattle.exact_time.specs.Causes.{Rose, HasCause};
 
 use crate::port::Port;
 use crate::tcp_link::TcpLink;
+use crate::way::{Advice, Way};
 use exact_time::Failed;
 use http_wire::Turn;
 use std::net::{Net, SocketAddr, TcpListener, TcpStream};
@@ -18,62 +19,20 @@ const WAITS: u64 = 100;
 
 const WAIT_MILLIS: u64 = 100;
 
-// Errors of Linux: no file handle is left for the process, or for all processes.
-const NO_HANDLE: i32 = 24;
-
-const NO_HANDLE_AT_ALL: i32 = 23;
-
-// No memory is left for a socket.
-const NO_MEMORY: i32 = 12;
-
-const NO_BUFFERS: i32 = 105;
-
-// Errors that the network may have pending for a connection that is accepted (accept(2), "Error handling"), and that a firewall
-// forbids it: EPROTO, ENOPROTOOPT, EHOSTDOWN, ENONET, EOPNOTSUPP, EPERM, ETIMEDOUT.
-const OF_ONE_CONNECTION: [i32; 7] = [71, 92, 112, 64, 95, 1, 110];
-
-// What an error of accepting a connection asks for.
-#[derive(Clone, Copy)]
-enum Advice {
-    // It was that connection's own: the next one may be well.
-    Again,
-    // There are no file handles, or no memory for a socket: others may end.
-    Wait,
-    // It stays.
-    GiveUp,
-}
-
-// Errors that Linux may pass on from the connection that was taken (accept(2), "Error handling").
-fn advice_on(error: &io::Error) -> Advice {
-    match error.kind() {
-        io::ErrorKind::ConnectionAborted
-        | io::ErrorKind::ConnectionReset
-        | io::ErrorKind::Interrupted
-        | io::ErrorKind::NetworkDown
-        | io::ErrorKind::NetworkUnreachable
-        | io::ErrorKind::HostUnreachable => Advice::Again,
-        _ => match error.raw_os_error() {
-            Some(NO_HANDLE | NO_HANDLE_AT_ALL | NO_MEMORY | NO_BUFFERS) => Advice::Wait,
-            Some(code) if OF_ONE_CONNECTION.contains(&code) => Advice::Again,
-            _ => Advice::GiveUp,
-        },
-    }
-}
-
-/// Listens at one address, from the first `accept` on, and gives a link for each connection. It closes behind so many links,
-/// where a number is given. It tells nothing but its faults.
+/// Listens at one address, from the first `accept` on, and gives a link for each connection; or dials a peer, once for each
+/// `accept`. It closes behind so many links, where a number is given. It tells nothing but its faults.
 ///
-/// A connection that was lost before it could be given is a fault, and the next one is waited for. Where there are no file
-/// handles, or no memory for a socket, that is a fault, and it tries again a tenth of a second later, a hundred times; then the call fails. So it does
-/// where the address can't be listened at, or where it has none. A link that comes back is closed; what its client still sends is read for a short
-/// time, so that it gets its last reply.
+/// Where it listens, a connection that was lost before it could be given is a fault, and the next one is waited for. Where there
+/// are no file handles, or no memory for a socket, that is a fault, and it tries again a tenth of a second later, a hundred times;
+/// then the call fails. So it does where the address can't be listened at, or where it has none. Where it dials, a peer that
+/// can't be reached is a fault, and the call fails at once. A link that comes back is closed; what the other side still sends is
+/// read for a short time, so that a client gets its last reply.
 #[derive(Drop)]
 pub struct TcpPort<N> {
     net: N,
-    address: Option<SocketAddr>,
+    way: Way,
     sessions: Option<u64>,
     patience: Duration,
-    listener: Option<TcpListener>,
     faults: u64,
 }
 
@@ -92,10 +51,23 @@ impl<N: Net<Listener = TcpListener, Stream = TcpStream> + Clock> TcpPort<N> {
     ) -> Self {
         TcpPort {
             net,
-            address,
+            way: Way::Listens {
+                address,
+                listener: None,
+            },
             sessions,
             patience,
-            listener: None,
+            faults: 0,
+        }
+    }
+
+    /// A port that dials a peer at the first of its addresses that answers, and whose links wait so long for it.
+    pub fn dialling(net: N, addresses: Vec<SocketAddr>, patience: Duration) -> Self {
+        TcpPort {
+            net,
+            way: Way::Dials(addresses),
+            sessions: None,
+            patience,
             faults: 0,
         }
     }
@@ -108,25 +80,11 @@ impl<N: Net<Listener = TcpListener, Stream = TcpStream> + Clock> TcpPort<N> {
         Failed
     }
 
-    // The next connection, at a listener that is bound where there is none yet.
+    // The next connection.
     fn next_link(&mut self) -> io::Result<TcpLink>
         ensures { self.new.faults ≡ self.old.faults }
     {
-        if self.listener.is_none() {
-            let Some(address) = self.address else {
-                return Err(io::Error::from(io::ErrorKind::AddrNotAvailable));
-            };
-            self.listener = Some(TcpListener::bind(&self.net, address)?);
-        }
-        let Some(listener) = &self.listener else {
-            return Err(io::Error::from(io::ErrorKind::NotConnected));
-        };
-        let (stream, _) = listener.accept()?;
-        match TcpLink::new(stream, self.patience) {
-            Ok(link) => Ok(link),
-            // A setting that the system refuses loses that connection alone.
-            Err(_) => Err(io::Error::from(io::ErrorKind::ConnectionAborted)),
-        }
+        self.way.next_link(&self.net, self.patience)
     }
 
     // The next link, whatever is lost before it.
@@ -137,7 +95,7 @@ impl<N: Net<Listener = TcpListener, Stream = TcpStream> + Clock> TcpPort<N> {
         'tries: for _ in 0..u64::MAX {
             let advice = match self.next_link() {
                 Ok(link) => return Ok(link),
-                Err(error) => advice_on(&error),
+                Err(error) => self.way.advice_on(&error),
             };
             let failed = self.fail();
             match advice {
@@ -160,7 +118,7 @@ impl<N: Net<Listener = TcpListener, Stream = TcpStream> + Clock> Port for TcpPor
 
     fn accept(&mut self) -> Result<Option<TcpLink>, Failed> {
         if self.sessions == Some(0) {
-            self.listener = None;
+            self.way.close();
             return Ok(None);
         }
         let link = self.await_link()?;

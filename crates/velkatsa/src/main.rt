@@ -11,7 +11,7 @@ use centre_session::RealClock;
 use disk_model::FileDisk;
 use exact_time::{Bytes, OutOfMemory};
 use http_digest::Secret;
-use link_ports::{TcpPort, TellingPort};
+use link_ports::{PATIENCE, TcpPort, TellingPort};
 use snapshot_hall::OpenGate;
 use std::alloc::Global;
 use std::fs::{File, Files};
@@ -19,7 +19,7 @@ use std::io::{Read, Stderr};
 use std::net::{Net, SocketAddr, TcpListener, TcpStream, ToSocketAddrs};
 use std::process::ExitCode;
 use std::rt::Env;
-use std::time::Clock;
+use std::time::{Clock, Duration};
 use std::{env, io};
 use streams::put_all;
 
@@ -48,11 +48,27 @@ fn disk_for<R: Files<File = File> + Drop>(
     Ok(FileDisk::new(files, path, outside.may_make))
 }
 
-// The address at which a worker listens: the one that the words give, with its port and the worker's number. None where they
-// give none, or there is no such port.
-fn address_for<R: Net>(net: &R, outside: &Outside, number: u8) -> Option<SocketAddr> {
-    let text = outside.address.as_ref()?;
-    let first = text.as_str().to_socket_addrs(net).ok()?.next()?;
+// The addresses that the words name: none where they give none, or where there is none of that name.
+fn addresses_of<R: Net>(
+    net: &R,
+    alloc: Global,
+    outside: &Outside,
+) -> Result<Vec<SocketAddr>, OutOfMemory> {
+    let mut addresses = Vec::new(alloc);
+    if let Some(text) = &outside.address {
+        if let Ok(found) = text.as_str().to_socket_addrs(net) {
+            'found: for address in found {
+                addresses.push(address)?;
+            }
+        }
+    }
+    Ok(addresses)
+}
+
+// The address at which a worker listens: the first of these, with its port and the worker's number. None where there is no such
+// port.
+fn address_for(addresses: &[SocketAddr], number: u8) -> Option<SocketAddr> {
+    let first = addresses.first()?;
     let port = first.port().checked_add(u16::from(number))?;
     Some(SocketAddr::new(first.ip(), port))
 }
@@ -69,15 +85,21 @@ fn port_for<'a, R: Net<Listener = TcpListener, Stream = TcpStream> + Clock>(
 ) -> Result<RealPort<'a, R>, OutOfMemory> {
     let count = u16::from(number) + 1;
     let line = format!(in alloc; "centre: worker {count} has ended: port fault\n")?;
-    let address = address_for(rt, outside, number);
+    let addresses = addresses_of(rt, alloc, outside)?;
+    let port = if outside.dials && number == 0 {
+        TcpPort::dialling(rt, addresses, Duration::from_secs(PATIENCE))
+    } else {
+        let address = address_for(addresses.as_slice(), number);
+        TcpPort::new(rt, address, outside.sessions)
+    };
     Ok(TellingPort {
-        port: TcpPort::new(rt, address, outside.sessions),
+        port,
         line: Bytes::from_vec(line.into_bytes()),
         errors: StdSink::new(errors),
     })
 }
 
-// The workers that the words ask for. Each listens at its first call.
+// The workers that the words ask for. Each listens, or dials, at its first call.
 fn workers_for<'a, R: Net<Listener = TcpListener, Stream = TcpStream> + Clock>(
     rt: &'a R,
     alloc: Global,

@@ -260,3 +260,56 @@ fn an_address_in_use_is_a_fault_of_the_port(rt: HostRuntime) -> Result<(), Fail>
     assert!(rt; matches!(port.accept(), Err(Failed)));
     Ok(())
 }
+
+// Asks by links that a port dials, of which the first ones may come before somebody listens: how many answers came.
+fn ask_by_dialling<P: Port>(port: &mut P, rt: &impl Clock, times: u64) -> u64 {
+    let mut answers: u64 = 0;
+    'tries: for _ in 0..500u32 {
+        if answers == times {
+            break 'tries;
+        }
+        let Ok(Some(mut link)) = port.accept() else {
+            std::thread::sleep(rt, Duration::from_millis(10));
+            continue 'tries;
+        };
+        let mut answer = [0];
+        if link.put(b"?") == Ok(1) && link.take(&mut answer) == Ok(1) && answer[0] == b'!' {
+            answers = answers.saturating_add(1);
+        }
+        port.give_back(link, &[]);
+    }
+    answers
+}
+
+// The first address that answers is taken.
+#[test]
+fn a_port_dials_once_for_each_link(rt: HostRuntime) -> Result<(), Fail> {
+    let shared = &rt;
+    let address = free_address(shared)?;
+    let mut addresses = Vec::new(rt.alloc());
+    addresses.push(free_address(shared)?)?;
+    addresses.push(address)?;
+    let mut port = TcpPort::new(shared, Some(address), Some(3));
+    let mut dialling = TcpPort::dialling(shared, addresses, Duration::from_secs(5));
+    let (served, answers) = join(
+        shared,
+        || serve(&mut port, 3),
+        || ask_by_dialling(&mut dialling, shared, 3),
+    );
+    assert_eq!(rt; served, (3, 0));
+    assert_eq!(rt; answers, 3);
+    Ok(())
+}
+
+// Where nobody listens, and where there is no address, the port fails at once.
+#[test]
+fn nobody_to_dial_is_a_fault_of_the_port(rt: HostRuntime) -> Result<(), Fail> {
+    let shared = &rt;
+    let mut addresses = Vec::new(rt.alloc());
+    let mut nowhere = TcpPort::dialling(shared, Vec::new(rt.alloc()), Duration::from_secs(5));
+    assert!(rt; matches!(nowhere.accept(), Err(Failed)));
+    addresses.push(free_address(shared)?)?;
+    let mut port = TcpPort::dialling(shared, addresses, Duration::from_secs(5));
+    assert!(rt; matches!(port.accept(), Err(Failed)));
+    Ok(())
+}

@@ -4,6 +4,7 @@
 //! A program that is proved once runs them, so a case more costs no proof. The README says how a step is written.
 #![tactic(auto)]
 
+mod answers;
 mod credentials;
 mod fields;
 mod given;
@@ -34,7 +35,7 @@ enum Family {
     Wire,
 }
 
-const FILES: [(&str, Family); 9] = [
+const FILES: [(&str, Family); 10] = [
     ("times.txt", Family::Times),
     ("globs.txt", Family::Globs),
     ("revisions.txt", Family::Revisions),
@@ -44,6 +45,7 @@ const FILES: [(&str, Family); 9] = [
     ("replies.txt", Family::Replies),
     ("streams.txt", Family::Wire),
     ("requests.txt", Family::Wire),
+    ("answers.txt", Family::Wire),
 ];
 
 // What a step gives.

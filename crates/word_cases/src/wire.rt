@@ -1,8 +1,10 @@
-//! Steps on streams and links in memory, and on the requests that come over a link.
+//! Steps on streams and links in memory, and on the requests and replies that come over a link.
+use crate::answers::put_got;
 use crate::fields::put;
 use crate::given::text_of;
 use case_lines::escaped;
 use exact_time::{Bytes, Failed, Many, OutOfMemory, Text};
+use http_answers::{Got, GotEnd, read_reply};
 use http_wire::{Inbox, ReadEnd, Request, read_request};
 use std::alloc::Global;
 use streams::{MemoryLink, MemorySink, MemorySource, Sink, Source, Stream, put_all};
@@ -243,6 +245,48 @@ impl Wire {
         }
     }
 
+    // The next reply, whose body has so many bytes at most.
+    fn answer(&mut self, most: u64) -> Result<Got, GotEnd> {
+        match &mut self.outside {
+            Outside::Link(link) => read_reply(self.alloc, link, &mut self.inbox, most),
+            _ => Err(GotEnd::Cut),
+        }
+    }
+
+    // In how many of all sizes of pieces a text is read as a reply with so long a body.
+    fn answers(&mut self, size: usize, text: &[u8]) -> Result<usize, OutOfMemory> {
+        let mut whole: usize = 0;
+        'sizes: for piece in 1..=text.len() {
+            self.cut(piece, "", text)?;
+            let is_whole = match self.answer(MOST) {
+                Ok(got) => got.body.len() == size,
+                Err(_) => false,
+            };
+            if is_whole {
+                whole = whole.saturating_add(1);
+            }
+        }
+        Ok(whole)
+    }
+
+    // The same, where the size of the body stands in front of the text.
+    fn answers_given(&mut self, given: &str) -> Result<usize, OutOfMemory> {
+        let (size, text) = given.split_once(' ').unwrap_or((given, ""));
+        self.answers(size.parse().unwrap_or(0), text.as_bytes())
+    }
+
+    // At how many lengths, of all that are less than the whole, a text is cut inside a reply.
+    fn answer_cuts(&mut self, text: &[u8]) -> Result<usize, OutOfMemory> {
+        let mut cuts: usize = 0;
+        'lengths: for length in 0..text.len() {
+            self.cut(1000, "", &text[..length])?;
+            if self.answer(MOST).err() == Some(GotEnd::Cut) {
+                cuts = cuts.saturating_add(1);
+            }
+        }
+        Ok(cuts)
+    }
+
     // At how many lengths, of all that are less than the whole, a text is cut inside a request.
     fn cuts(&mut self, text: &[u8]) -> Result<usize, OutOfMemory> {
         let mut cuts: usize = 0;
@@ -265,6 +309,11 @@ impl Wire {
             "told" => put_told(alloc, out, self.told()),
             "faults" => put(alloc, out, self.faults()),
             "request" | "shape" => put_read(alloc, out, &self.read(), call == "request"),
+            "answer" => put_got(
+                alloc,
+                out,
+                &self.answer(text_of(given).parse().unwrap_or(MOST)),
+            ),
             _ => out.push(self.set_given(call, text_of(given))?),
         }
     }
@@ -281,6 +330,12 @@ impl Wire {
                 self.put_use("shape", given, out)
             }
             "cuts" => put(self.alloc, out, self.cuts(given)?),
+            "heard" => {
+                self.cut(1000, "", given)?;
+                self.put_use("answer", b"", out)
+            }
+            "heard-whole" => put(self.alloc, out, self.answers_given(text_of(given))?),
+            "heard-cut" => put(self.alloc, out, self.answer_cuts(given)?),
             _ => self.put_use(call, given, out),
         }
     }

@@ -6,6 +6,9 @@ use Rattle.committer.proofs.kept.Committer.count.Goals as goal
 pub returns-clause-lawful : goal.returns-clause-lawful
 returns-clause-lawful g c = let s = c.args.self.now in lawful_flush s.latest s.intake.waiting s.stands.lawful s.stands.waits
 
+pub returns-clause-kept : goal.returns-clause-kept
+returns-clause-kept g c = c.args.self.now.stands.history
+
 pub returns-clause-few : goal.returns-clause-few
 returns-clause-few g c = let s = c.args.self.now in few_more (λ step. step.1) s.front s.latest _ s.intake.waiting s.tied s.one
 

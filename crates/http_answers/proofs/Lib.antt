@@ -1,0 +1,9 @@
+pub mod AskedBack
+pub mod Blocks
+pub mod Fields
+pub mod Hex
+pub mod OneReply
+pub mod ReadBack
+pub mod ReadSteps
+pub mod Wide
+pub mod Sendings

@@ -1,0 +1,17 @@
+pub mod Alike
+pub mod Apart
+pub mod Carried
+pub mod Cells
+pub mod EveryRecord
+pub mod Examples
+pub mod Meets
+pub mod MomentDays
+pub mod Numbered
+pub mod Ordered
+pub mod PatternBytes
+pub mod Rising
+pub mod Shelved
+pub mod Stable
+pub mod TargetRead
+pub mod Whole
+pub mod Woven

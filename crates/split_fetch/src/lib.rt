@@ -1,0 +1,38 @@
+//! A window of a data centre's archive, asked for in parts and put together.
+//!
+//! What the crates above use: [`target_of`] writes the target of a request for one window, and [`gather_owned`] puts the
+//! answers for windows that adjoin together: the records without doubles, by name, quality letter and start
+//! (`IsGathered` of `specs/Gathering.antt`); or it says why not, the fronts of two neighbours that differ before a size
+//! that is too large. [`gather`] does the same by reference, and copies each record.
+//!
+//! Three laws say what this is worth (`src/law.rt`). [`parts_make_the_whole`]: where the answers have one front, and each
+//! is the data body of its own window (`data_body` of `dataselect`), what is gathered is the data body of the whole
+//! (`specs/Parts.antt`). [`rows_are_gathered_in_order`]: the rows without doubles, sorted, ties kept.
+//! [`a_target_reads_back`]: read as a query string, a target asks for its codes and its window, and for nothing else
+//! (`specs/Targets.antt`).
+//!
+//! A window has its start and its end in it, and windows adjoin where each begins one microsecond after the end of the one
+//! before and none ends before it begins (`specs/Windows.antt`; FDSN Web Service Specifications 1.2, dataselect, gives a
+//! record that has a sample in the window, so that a record may be in the answers for several windows).
+#![tactic(auto)]
+
+mod answer;
+mod asked;
+mod copying;
+mod everything;
+mod fault;
+mod fronts;
+mod gathering;
+mod law;
+mod numbering;
+mod target;
+mod window;
+
+pub use answer::WindowAnswer;
+pub use asked::Codes;
+pub use copying::gather;
+pub use fault::GatherFault;
+pub use gathering::gather_owned;
+pub use law::{a_target_reads_back, parts_make_the_whole, rows_are_gathered_in_order};
+pub use target::target_of;
+pub use window::Window;
