@@ -1,5 +1,6 @@
 pub mod Alike
 pub mod Apart
+pub mod AskedOnce
 pub mod Carried
 pub mod Cells
 pub mod EveryRecord
@@ -10,6 +11,7 @@ pub mod Numbered
 pub mod Ordered
 pub mod PatternBytes
 pub mod Rising
+pub mod RoundsSound
 pub mod Shelved
 pub mod Stable
 pub mod TargetRead

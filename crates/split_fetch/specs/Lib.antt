@@ -2,6 +2,10 @@ pub mod Everything
 pub mod Fronts
 pub mod Gathered
 pub mod Gathering
+pub mod Halves
+pub mod Once
 pub mod Parts
+pub mod Plans
+pub mod Rounds
 pub mod Targets
 pub mod Windows

@@ -1,5 +1,5 @@
 //! What holds of the definitions, whatever the code does.
-ghost use Rattle.std.specs.Prelude.{◌≡◌, ℕ, Bool, List, length, Ok, IsPermutation, IsSorted};
+ghost use Rattle.std.specs.Prelude.{◌≡◌, ◌≤ℤ◌, ◌∷◌, ℕ, Bool, List, length, None, Ok, IsPermutation, IsSorted};
 ghost use Rattle.std.specs.List.Sorted.{IsStable};
 ghost use Rattle.list_laws.specs.Only.{IsOnly};
 ghost use Rattle.mseed_header.specs.declared.row.Row.{Row};
@@ -8,13 +8,18 @@ ghost use Rattle.dataselect.specs.Rows.{held_rows};
 ghost use Rattle.dataselect.specs.declared.query.DataQuery.{DataQuery};
 ghost use Rattle.dataselect.specs.declared.query.Selection.{Selection};
 ghost use Rattle.query_words.specs.DataGet.{IsDataGet, IsGetFault};
+ghost use Rattle.split_fetch.specs.Fronts.{fronts_of, first_move};
 ghost use Rattle.split_fetch.specs.Gathering.{start_cmp, gathered, IsGathered, GatherRefuses};
+ghost use Rattle.split_fetch.specs.Once.{Follows, InOrder, asked_in};
 ghost use Rattle.split_fetch.specs.Parts.{AreParts};
+ghost use Rattle.split_fetch.specs.Rounds.{Goes, Ends, Stage, after, begun, way_after};
 ghost use Rattle.split_fetch.specs.Targets.{AreSpelt, CanBeAsked, query_in, target_bytes, window_query};
-ghost use Rattle.split_fetch.specs.Windows.{windows_of, Adjoin, in_window};
+ghost use Rattle.split_fetch.specs.Windows.{windows_of, Adjoin, Make, in_window};
 ghost use Rattle.split_fetch.specs.declared.answer.WindowAnswer.{WindowAnswer};
 ghost use Rattle.split_fetch.specs.declared.asked.Codes.{Codes};
 ghost use Rattle.split_fetch.specs.declared.fault.GatherFault.TheVariants.{Moved, TooLarge};
+ghost use Rattle.split_fetch.specs.declared.heard.Heard.{Heard};
+ghost use Rattle.split_fetch.specs.declared.heard.Outcome.TheVariants.{Done};
 ghost use Rattle.split_fetch.specs.declared.window.Window.{Window};
 
 /// What is gathered are the rows without doubles, each once, sorted by name, quality letter and start; rows of which these
@@ -50,4 +55,25 @@ pub fn a_target_reads_back()
     ensures { (codes : Codes) (window : Window) (patterns : Selection) → AreSpelt codes patterns → CanBeAsked window
         → IsOnly (IsDataGet (query_in (target_bytes codes window))) (IsGetFault (query_in (target_bytes codes window)))
         (Ok (window_query patterns window)) }
+{}
+
+/// Whatever was heard: where asking ends with all windows answered, these adjoin and make the whole, and no two
+/// neighbours have different fronts.
+pub fn accepted_windows_make_the_whole()
+    ensures { (whole : Window) (heard : List Heard) (taken : List WindowAnswer) → whole.start.micros ≤ℤ whole.end.micros
+        → way_after (Goes (begun whole 1)) heard ≡ Ends (Done taken)
+        → Make whole.start.micros whole.end.micros (windows_of taken) × (first_move (fronts_of taken) ≡ None) }
+{}
+
+/// Of two requests in a row: the second is in a new round, or its window begins later than that of the first, or
+/// begins with it and ends earlier. So no window is asked twice in one round, and the earlier half comes first.
+pub fn windows_are_asked_in_order()
+    ensures { (whole : Window) (heard : List Heard) (next : Heard) (s : Stage) (w : Window) (todo : List Window) → whole.start.micros ≤ℤ whole.end.micros
+        → way_after (Goes (begun whole 1)) heard ≡ Goes s → s.todo ≡ w ∷ todo → Follows s w (after s next) }
+{}
+
+/// In a round each window that is asked comes after all that were asked before it, so that none is asked twice.
+pub fn no_window_is_asked_twice()
+    ensures { (whole : Window) (heard : List Heard) (round : ℕ) → whole.start.micros ≤ℤ whole.end.micros
+        → InOrder (asked_in round (Goes (begun whole 1)) heard) }
 {}

@@ -11,6 +11,10 @@
 //! [`a_target_reads_back`]: read as a query string, a target asks for its codes and its window, and for nothing else
 //! (`specs/Targets.antt`).
 //!
+//! Which window is asked next, and how asking ends, are functions of what was heard (`specs/Rounds.antt`); a [`Plan`] is where a
+//! round stands, and has one step, [`Plan::after`]. Laws: the windows of the answers that were accepted adjoin, make the whole and
+//! have one front ([`accepted_windows_make_the_whole`]), and none is asked twice in a round ([`no_window_is_asked_twice`]).
+//!
 //! A window has its start and its end in it, and windows adjoin where each begins one microsecond after the end of the one
 //! before and none ends before it begins (`specs/Windows.antt`; FDSN Web Service Specifications 1.2, dataselect, gives a
 //! record that has a sample in the window, so that a record may be in the answers for several windows).
@@ -23,8 +27,12 @@ mod everything;
 mod fault;
 mod fronts;
 mod gathering;
+mod halves;
+mod heard;
 mod law;
 mod numbering;
+mod plan;
+mod planning;
 mod target;
 mod window;
 
@@ -33,6 +41,11 @@ pub use asked::Codes;
 pub use copying::gather;
 pub use fault::GatherFault;
 pub use gathering::gather_owned;
-pub use law::{a_target_reads_back, parts_make_the_whole, rows_are_gathered_in_order};
+pub use heard::{Heard, Outcome};
+pub use law::{
+    a_target_reads_back, accepted_windows_make_the_whole, no_window_is_asked_twice,
+    parts_make_the_whole, rows_are_gathered_in_order, windows_are_asked_in_order,
+};
+pub use plan::{Plan, Step};
 pub use target::target_of;
 pub use window::Window;
