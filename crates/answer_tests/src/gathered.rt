@@ -9,8 +9,8 @@ use split_fetch::{GatherFault, Window, WindowAnswer, gather, gather_owned};
 use std::alloc::Global;
 use std::test::Fail;
 
-// Five seconds of the channel from a second of 2024-02-01 on, as the record of that number.
-fn record(number: u8, second: u8) -> [u8; 512]
+/// Five seconds of the channel from a second of 2024-02-01 on, as the record of that number.
+pub fn record(number: u8, second: u8) -> [u8; 512]
     requires { number ≤ 9 }
 {
     let mut record = anmo_record();
@@ -19,8 +19,8 @@ fn record(number: u8, second: u8) -> [u8; 512]
     record
 }
 
-// The bytes of records, one after another.
-fn end_to_end(alloc: Global, records: &[[u8; 512]]) -> Result<Bytes, OutOfMemory> {
+/// The bytes of records, one after another.
+pub fn end_to_end(alloc: Global, records: &[[u8; 512]]) -> Result<Bytes, OutOfMemory> {
     let mut bytes = Bytes::new(alloc);
     'records: for record in records {
         bytes.extend(record)?;

@@ -4,6 +4,8 @@
 #![tactic(auto)]
 
 #[cfg(test)]
+mod fetched;
+#[cfg(test)]
 mod gathered;
 #[cfg(test)]
 mod many;

@@ -30,8 +30,8 @@ fn list(alloc: Global, piece: &str, part: Part) -> Option<Text>
     }
 }
 
-// The codes, if each is a list of patterns.
-fn codes(alloc: Global, channel: &str) -> Option<Codes>
+/// The codes, if each is a list of patterns.
+pub fn codes(alloc: Global, channel: &str) -> Option<Codes>
     ensures { IfSome result AreLists }
 {
     Some(Codes {

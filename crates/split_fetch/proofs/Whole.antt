@@ -66,7 +66,7 @@ none_some : (fronts : ℕ × ℕ) → None ≡ Some fronts → ⊥
 none_some fronts h = absurd cc
 
 -- windows that make a whole adjoin
-make_adjoin : (from to : ℤ) (windows : List Window) → Make from to windows → Adjoin windows
+pub make_adjoin : (from to : ℤ) (windows : List Window) → Make from to windows → Adjoin windows
 make_adjoin from to [] make = tt
 make_adjoin from to (w ∷ []) make = let begins = make.0 in let forward = make.1 in omega (arith, ints, begins, forward)
 make_adjoin from to (w ∷ v ∷ windows) make = (

@@ -1,10 +1,12 @@
 pub mod Everything
+pub mod Fetching
 pub mod Fronts
 pub mod Gathered
 pub mod Gathering
 pub mod Halves
 pub mod Once
 pub mod Parts
+pub mod Peers
 pub mod Plans
 pub mod Rounds
 pub mod Targets

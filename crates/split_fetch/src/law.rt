@@ -12,6 +12,7 @@ ghost use Rattle.split_fetch.specs.Fronts.{fronts_of, first_move};
 ghost use Rattle.split_fetch.specs.Gathering.{start_cmp, gathered, IsGathered, GatherRefuses};
 ghost use Rattle.split_fetch.specs.Once.{Follows, InOrder, asked_in};
 ghost use Rattle.split_fetch.specs.Parts.{AreParts};
+ghost use Rattle.split_fetch.specs.Peers.{OneHeard};
 ghost use Rattle.split_fetch.specs.Rounds.{Goes, Ends, Stage, after, begun, way_after};
 ghost use Rattle.split_fetch.specs.Targets.{AreSpelt, CanBeAsked, query_in, target_bytes, window_query};
 ghost use Rattle.split_fetch.specs.Windows.{windows_of, Adjoin, Make, in_window};
@@ -76,4 +77,10 @@ pub fn windows_are_asked_in_order()
 pub fn no_window_is_asked_twice()
     ensures { (whole : Window) (heard : List Heard) (round : ℕ) → whole.start.micros ≤ℤ whole.end.micros
         → InOrder (asked_in round (Goes (begun whole 1)) heard) }
+{}
+
+/// What is heard on a link is a function of the bytes that came and of whether it failed. So the windows that are asked, and how
+/// asking ends, are functions of these.
+pub fn one_thing_is_heard()
+    ensures { OneHeard }
 {}

@@ -1,7 +1,11 @@
 //! A window of a data centre's archive, asked for in parts and put together.
 //!
-//! What the crates above use: [`target_of`] writes the target of a request for one window, and [`gather_owned`] puts the
-//! answers for windows that adjoin together: the records without doubles, by name, quality letter and start
+//! What the crates above use: [`fetch`] asks for a window over the links of a port, by one request on each, and gives the records of
+//! all (`specs/Fetching.antt`). What is heard on a link is a function of the bytes that came and of whether it failed
+//! (`specs/Peers.antt`, [`one_thing_is_heard`]).
+//!
+//! [`target_of`] writes the target of a request for one window, and [`gather_owned`] puts the answers for windows that adjoin
+//! together: the records without doubles, by name, quality letter and start
 //! (`IsGathered` of `specs/Gathering.antt`); or it says why not, the fronts of two neighbours that differ before a size
 //! that is too large. [`gather`] does the same by reference, and copies each record.
 //!
@@ -22,9 +26,11 @@
 
 mod answer;
 mod asked;
+mod asking;
 mod copying;
 mod everything;
 mod fault;
+mod fetching;
 mod fronts;
 mod gathering;
 mod halves;
@@ -40,11 +46,13 @@ pub use answer::WindowAnswer;
 pub use asked::Codes;
 pub use copying::gather;
 pub use fault::GatherFault;
+pub use fetching::{FetchFault, fetch};
 pub use gathering::gather_owned;
 pub use heard::{Heard, Outcome};
 pub use law::{
     a_target_reads_back, accepted_windows_make_the_whole, no_window_is_asked_twice,
-    parts_make_the_whole, rows_are_gathered_in_order, windows_are_asked_in_order,
+    one_thing_is_heard, parts_make_the_whole, rows_are_gathered_in_order,
+    windows_are_asked_in_order,
 };
 pub use plan::{Plan, Step};
 pub use target::target_of;
