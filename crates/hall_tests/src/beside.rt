@@ -2,7 +2,8 @@
 //! before that commit; and another post, which comes to its gate only once the first has left its own.
 ghost use Rattle.std.specs.Prelude.{◌≡◌, IfOk, length};
 
-use centre::{MemorySink, MemorySource, Worker, run};
+use archive_state::Limits;
+use centre_serve::{Served, Worker, serve};
 use centre_session::FixedClock;
 use disk_model::MemoryDisk;
 use exact_time::{Failed, Many};
@@ -33,15 +34,6 @@ fn clock() -> Result<FixedClock, Fail> {
         return Err("no moment".into());
     }
     Ok(FixedClock::new(NOW))
-}
-
-// The words, each a string of its own.
-fn owned_words(alloc: Global, words: &[&str]) -> Result<Vec<String>, Fail> {
-    let mut owned = Vec::new(alloc);
-    for word in words {
-        owned.push(String::from_str(alloc, word)?)?;
-    }
-    Ok(owned)
 }
 
 // Set by one worker, and awaited by another; and how each wait ended.
@@ -192,31 +184,21 @@ fn serve_all<R: Threads + Wait + Sync>(
     alloc: Global,
     signals: &Signals,
 ) -> Result<bool, Fail> {
-    let words = owned_words(
-        alloc,
-        &["serve", "--journal=a", "--listen=b:1", "--workers=3"],
-    )?;
-    let mut source = MemorySource::new(Many::new(alloc), Many::new(alloc));
-    let mut sink = MemorySink::new(alloc, Many::new(alloc));
-    let mut errors = MemorySink::new(alloc, Many::new(alloc));
     let disk = MemoryDisk::new(alloc, bytes(alloc, FOUNDED)?, Many::new(alloc))?;
     let workers = workers_of(alloc, signals)?;
-    let mut clock = clock()?;
-    let ended = run(
+    let room = Vec::with_capacity(alloc, workers.len())?;
+    let Served { ending, ports, .. } = serve(
         rt,
         alloc,
-        &words,
-        SECRET,
-        &mut source,
-        &mut sink,
-        &mut errors,
         disk,
-        &mut clock,
         workers,
+        room,
+        &SECRET,
+        &Limits::FULL,
     );
-    Ok(match ended.ports.as_slice() {
+    Ok(match ports.as_slice() {
         [one, two, three] => {
-            ended.status == 0
+            ending.is_ok()
                 && (is_told(one, REVISED) && is_told(two, NO_NETWORK) && is_told(three, REVISED))
         }
         _ => false,
