@@ -102,26 +102,33 @@ module _ (c : Codes) (whole : Window) where
     pub leads : way_after (Goes (begun whole 1)) heard ≡ Goes s
     pub later : a.faults ≤ b.faults
 
+  -- something was heard on every link
+  abbrev pub FetchesAll : PortView → PortView → Way → Type 0
+  FetchesAll a d way = (fetches : Fetches c whole a d way) × (fetches.more ≡ [])
+
   pub so_far_none : (p : PortView) (s : Stage) → s ≡ begun whole 1 → SoFar p p s
   unfolding way_after windows_asked
   so_far_none p s is = record { gave = []; came = []; heard = []; left = took_none p.left; back = came_none p.back; asked = tt; leads = ap Goes (sym is); later = omega arith }
 
   module _ (a b : PortView) (s : Stage) (so : SoFar a b s) where
     -- the port failed, or gave nothing more
-    pub still : (d : PortView) → d.left ≡ b.left → d.back ≡ b.back → b.faults ≤ d.faults → Fetches c whole a d (Goes s)
-    still d left back later = record {
-      gave = so.gave;
-      came = so.came;
-      heard = so.heard;
-      more = [];
-      unheard = [];
-      left = subst (Took a.left d.left) (sym (append-nil so.gave)) (subst (λ o. Took a.left o so.gave) (sym left) so.left);
-      back = subst (Came a.back d.back) (sym (append-nil so.came)) (subst (λ o. Came a.back o so.came) (sym back) so.back);
-      asked = so.asked;
-      leads = so.leads;
-      spare = tt;
-      later = (let before = so.later in omega (arith, before, later));
-    }
+    pub still : (d : PortView) → d.left ≡ b.left → d.back ≡ b.back → b.faults ≤ d.faults → FetchesAll a d (Goes s)
+    still d left back later = (
+      record {
+        gave = so.gave;
+        came = so.came;
+        heard = so.heard;
+        more = [];
+        unheard = [];
+        left = subst (Took a.left d.left) (sym (append-nil so.gave)) (subst (λ o. Took a.left o so.gave) (sym left) so.left);
+        back = subst (Came a.back d.back) (sym (append-nil so.came)) (subst (λ o. Came a.back o so.came) (sym back) so.back);
+        asked = so.asked;
+        leads = so.leads;
+        spare = tt;
+        later = (let before = so.later in omega (arith, before, later));
+      },
+      refl,
+    )
 
     module _ (m d : PortView) (link after_link : StreamView) (took : Took b.left m.left (link ∷ [])) (kept : m.back ≡ b.back) (grew : b.faults ≤ m.faults)
         (left : d.left ≡ m.left) (came : Came m.back d.back (visitor after_link [] ∷ [])) (same : d.faults ≡ m.faults) where
@@ -175,20 +182,23 @@ module _ (c : Codes) (whole : Window) where
         }
 
         -- where it leads
-        pub led : (way : Way) → after s h ≡ way → Fetches c whole a d way
-        led way is = record {
-          gave = so.gave ++ link ∷ [];
-          came = so.came ++ visitor after_link [] ∷ [];
-          heard = so.heard ++ h ∷ [];
-          more = [];
-          unheard = [];
-          left = subst (Took a.left d.left) (sym (append-nil (so.gave ++ link ∷ []))) all_left;
-          back = subst (Came a.back d.back) (sym (append-nil (so.came ++ visitor after_link [] ∷ []))) all_back;
-          asked = now_asked;
-          leads = way_more begin so.heard h s so.leads ∙ is;
-          spare = tt;
-          later = all_later;
-        }
+        pub led : (way : Way) → after s h ≡ way → FetchesAll a d way
+        led way is = (
+          record {
+            gave = so.gave ++ link ∷ [];
+            came = so.came ++ visitor after_link [] ∷ [];
+            heard = so.heard ++ h ∷ [];
+            more = [];
+            unheard = [];
+            left = subst (Took a.left d.left) (sym (append-nil (so.gave ++ link ∷ []))) all_left;
+            back = subst (Came a.back d.back) (sym (append-nil (so.came ++ visitor after_link [] ∷ []))) all_back;
+            asked = now_asked;
+            leads = way_more begin so.heard h s so.leads ∙ is;
+            spare = tt;
+            later = all_later;
+          },
+          refl,
+        )
 
     -- there is a window to ask
     pub some_todo : s.todo ≡ [] → ⊥
@@ -220,22 +230,22 @@ module _ (c : Codes) (whole : Window) (a d : PortView) (o : Outcome) (all : Fetc
   pub accepted : whole.start.micros ≤ℤ whole.end.micros → AreAccepted o
   accepted forward = accepted_so whole o (subst (GoodWay whole) all.leads (way_good whole forward (Goes (begun whole 1)) all.heard (begun_sound whole forward whole 1 refl)))
 
-  pub finished : (result : Result (List ℕ) FetchFault) → MatchResult result (GivesBytes o) (EndsAs o) → MatchResult result (IsFetched c whole a d) (FetchRefuses c whole a d)
-  finished (Ok bytes) gives = by o all gives
+  pub finished : all.more ≡ [] → (result : Result (List ℕ) FetchFault) → MatchResult result (GivesBytes o) (EndsAs o) → MatchResult result (IsFetched c whole a d) (FetchRefuses c whole a d)
+  finished none (Ok bytes) gives = by o all none gives
     where
-      by : (p : Outcome) → Fetches c whole a d (Ends p) → GivesBytes p bytes → IsFetched c whole a d bytes
-      by (Done taken) fetches is = (taken, fetches, is)
-      by LostAtLast fetches is = absurd is
-      by (Moved x y) fetches is = absurd is
-      by Requests fetches is = absurd is
-      by (PeerSaid status) fetches is = absurd is
-      by BadAtLast fetches is = absurd is
-  finished (Err fault.Lost) why = (Ends o, all, (o, refl, why))
-  finished (Err (fault.Moved x y)) why = (Ends o, all, (o, refl, why))
-  finished (Err fault.Requests) why = (Ends o, all, (o, refl, why))
-  finished (Err (fault.Peer status)) why = (Ends o, all, (o, refl, why))
-  finished (Err fault.BadReply) why = (Ends o, all, (o, refl, why))
-  finished (Err (fault.TooLarge n)) why = (Ends o, all, (o, refl, why))
-  finished (Err fault.NoLink) why = absurd why
-  finished (Err fault.PortFault) why = absurd why
-  finished (Err fault.OutOfMemory) why = (Ends o, all, tt)
+      by : (p : Outcome) (fetches : Fetches c whole a d (Ends p)) → fetches.more ≡ [] → GivesBytes p bytes → IsFetched c whole a d bytes
+      by (Done taken) fetches heard is = (taken, fetches, heard, is)
+      by LostAtLast fetches heard is = absurd is
+      by (Moved x y) fetches heard is = absurd is
+      by Requests fetches heard is = absurd is
+      by (PeerSaid status) fetches heard is = absurd is
+      by BadAtLast fetches heard is = absurd is
+  finished none (Err fault.Lost) why = (Ends o, all, none, (o, refl, why))
+  finished none (Err (fault.Moved x y)) why = (Ends o, all, none, (o, refl, why))
+  finished none (Err fault.Requests) why = (Ends o, all, none, (o, refl, why))
+  finished none (Err (fault.Peer status)) why = (Ends o, all, none, (o, refl, why))
+  finished none (Err fault.BadReply) why = (Ends o, all, none, (o, refl, why))
+  finished none (Err (fault.TooLarge n)) why = (Ends o, all, none, (o, refl, why))
+  finished none (Err fault.NoLink) why = absurd why
+  finished none (Err fault.PortFault) why = absurd why
+  finished none (Err fault.OutOfMemory) why = (Ends o, all, tt, tt)

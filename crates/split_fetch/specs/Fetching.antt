@@ -74,9 +74,16 @@ abbrev pub GivesBytes : Outcome → List ℕ → Type 0
 GivesBytes (outcome.Done taken) bytes = IsGathered taken bytes
 GivesBytes _ bytes = ⊥
 
+-- where memory doesn't run out, something was heard on every link
+abbrev pub HeardAll : FetchFault → List StreamView → Type 0
+HeardAll fault.OutOfMemory more = Unit {0}
+HeardAll why more = more ≡ []
+
 -- all windows were answered with one front, and the bytes are what is gathered of them
 abbrev pub IsFetched : Codes → Window → PortView → PortView → List ℕ → Type 0
-IsFetched c whole before after bytes = (taken : List WindowAnswer) × Fetches c whole before after (Ends (outcome.Done taken)) × IsGathered taken bytes
+IsFetched c whole before after bytes =
+    (taken : List WindowAnswer) × (fetches : Fetches c whole before after (Ends (outcome.Done taken))) × (fetches.more ≡ []) × IsGathered taken bytes
 
 abbrev pub FetchRefuses : Codes → Window → PortView → PortView → FetchFault → Type 0
-FetchRefuses c whole before after why = (way : Way) × Fetches c whole before after way × EndsSo before after way why
+FetchRefuses c whole before after why =
+    (way : Way) × (fetches : Fetches c whole before after way) × HeardAll why fetches.more × EndsSo before after way why

@@ -9,7 +9,7 @@ use Rattle.split_fetch.proofs.NextAsked.{after_less}
 use Rattle.split_fetch.proofs.fetching.fetch.Goals as goal
 
 pub returns-in-Err : goal.returns-in-Err
-returns-in-Err g c = (Goes (begun c.args.window 1), fetches_none c.args.codes.now c.args.window (g.P.Port.view c.args.port.now), tt)
+returns-in-Err g c = (Goes (begun c.args.window 1), fetches_none c.args.codes.now c.args.window (g.P.Port.view c.args.port.now), tt, tt)
 
 pub asks-init : goal.asks-init
 asks-init g c = so_far_none c.args.codes.now c.args.window (g.P.Port.view c.args.port.now) (stage_of c.in-Ok.plan) c.in-Ok.ensures
@@ -22,9 +22,11 @@ unreachable-requires g c =
 pub returns-in-Ok-None : goal.returns-in-Ok-None
 returns-in-Ok-None g c =
     let s = stage_of c.asks.plan in
-    let gives = rw c.in-Ok-None.field-0-is at c.in-Ok-None.ensures.gives in (
+    let gives = rw c.in-Ok-None.field-0-is at c.in-Ok-None.ensures.gives in
+    let it = still c.args.codes.now c.args.window _ _ s c.asks.invariant _ gives.1 c.accept.ensures.back c.accept.ensures.cause.later in (
       Goes s,
-      still c.args.codes.now c.args.window _ _ s c.asks.invariant _ gives.1 c.accept.ensures.back c.accept.ensures.cause.later,
+      it.0,
+      it.1,
       (s, refl, subst (λ o. IsSpent o) (sym gives.1) gives.0),
     )
 
@@ -32,9 +34,11 @@ pub returns-in-Err-accept : goal.returns-in-Err-accept
 returns-in-Err-accept g c =
     let s = stage_of c.asks.plan in
     let before = c.asks.invariant.later in
-    let rose = c.in-Err-accept.ensures.cause.failed in (
+    let rose = c.in-Err-accept.ensures.cause.failed in
+    let it = still c.args.codes.now c.args.window _ _ s c.asks.invariant _ c.in-Err-accept.ensures.gives c.accept.ensures.back c.accept.ensures.cause.later in (
       Goes s,
-      still c.args.codes.now c.args.window _ _ s c.asks.invariant _ c.in-Err-accept.ensures.gives c.accept.ensures.back c.accept.ensures.cause.later,
+      it.0,
+      it.1,
       (s, refl, omega (arith, before, rose)),
     )
 
@@ -62,6 +66,7 @@ returns-in-Err-heard g c =
       unheard c.args.codes.now c.args.window _ _ s c.asks.invariant _ _ _ _ took c.accept.ensures.back c.accept.ensures.cause.later
           c.give_back.ensures.left c.give_back.ensures.back c.give_back.ensures.faults,
       tt,
+      tt,
     )
 
 pub asks-smaller : goal.asks-smaller
@@ -85,7 +90,7 @@ ended-requires g c =
     let all = led c.args.codes.now c.args.window _ _ (stage_of c.asks.plan) c.asks.invariant _ _ _ _ took c.accept.ensures.back c.accept.ensures.cause.later
     c.give_back.ensures.left c.give_back.ensures.back c.give_back.ensures.faults c.in-Some.next c.in-Ok-heard.heard first c.in-Ok-heard.ensures
     (Ends c.in-Ok-Ends.outcome) (sym c.in-Ok-Ends.ensures ∙ ap way_of c.in-Ok-Ends.field-0-is) in
-    accepted c.args.codes.now c.args.window _ _ c.in-Ok-Ends.outcome all c.requires.window.forward
+    accepted c.args.codes.now c.args.window _ _ c.in-Ok-Ends.outcome all.0 c.requires.window.forward
 
 pub returns-in-Ok-Ends : goal.returns-in-Ok-Ends
 returns-in-Ok-Ends g c =
@@ -94,7 +99,7 @@ returns-in-Ok-Ends g c =
     let all = led c.args.codes.now c.args.window _ _ (stage_of c.asks.plan) c.asks.invariant _ _ _ _ took c.accept.ensures.back c.accept.ensures.cause.later
     c.give_back.ensures.left c.give_back.ensures.back c.give_back.ensures.faults c.in-Some.next c.in-Ok-heard.heard first c.in-Ok-heard.ensures
     (Ends c.in-Ok-Ends.outcome) (sym c.in-Ok-Ends.ensures ∙ ap way_of c.in-Ok-Ends.field-0-is) in
-    finished c.args.codes.now c.args.window _ _ c.in-Ok-Ends.outcome all c.ended.result c.ended.ensures
+    finished c.args.codes.now c.args.window _ _ c.in-Ok-Ends.outcome all.0 all.1 c.ended.result c.ended.ensures
 
 pub returns-in-Err-after : goal.returns-in-Err-after
 returns-in-Err-after g c =
@@ -102,7 +107,8 @@ returns-in-Err-after g c =
     let first = ap (λ (ws : List Window). first_of_todo (reverse ws)) (sym c.as_slice.ensures) ∙ c.in-Some.ensures.some in
     let way = after (stage_of c.asks.plan) c.in-Ok-heard.heard in (
       way,
-      led c.args.codes.now c.args.window _ _ (stage_of c.asks.plan) c.asks.invariant _ _ _ _ took c.accept.ensures.back c.accept.ensures.cause.later
-          c.give_back.ensures.left c.give_back.ensures.back c.give_back.ensures.faults c.in-Some.next c.in-Ok-heard.heard first c.in-Ok-heard.ensures way refl,
+      (led c.args.codes.now c.args.window _ _ (stage_of c.asks.plan) c.asks.invariant _ _ _ _ took c.accept.ensures.back c.accept.ensures.cause.later
+          c.give_back.ensures.left c.give_back.ensures.back c.give_back.ensures.faults c.in-Some.next c.in-Ok-heard.heard first c.in-Ok-heard.ensures way refl).0,
+      tt,
       tt,
     )
