@@ -4,7 +4,9 @@ import http.client
 import os
 import signal
 import socket
+import struct
 import subprocess
+import threading
 import time
 
 TOP = os.path.dirname(os.path.dirname(os.path.abspath(__file__)))
@@ -192,3 +194,55 @@ class Talk:
         """The status and the text on standard error."""
         out, errors = self.process.communicate()
         return self.process.returncode, errors.decode()
+
+
+def reply(status, body=b"", front=4, length=None):
+    """The bytes of a reply, with such a front and such a Content-Length: none where it is None or "", and the body's by default."""
+    fields = [f"X-Archive-Front: {front}"] if front is not None else []
+    size = length if length is not None else len(body) if status != 204 else ""
+    fields += [f"Content-Length: {size}"] if size != "" else []
+    return "\r\n".join([f"HTTP/1.1 {status} Told", *fields, "", ""]).encode() + body
+
+
+class Peer:
+    """A data centre of a few lines on 127.0.0.1. To each request `answer`, of its number from 0, gives the bytes that it sends
+    before it closes the connection, or None where it resets it; `heads` are the requests, and `sent` counts the bytes."""
+
+    def __init__(self, answer):
+        self.answer, self.heads, self.sent = answer, [], 0
+        self.listener = socket.create_server(("127.0.0.1", 0))
+        self.address = f"127.0.0.1:{self.listener.getsockname()[1]}"
+        self.thread = threading.Thread(target=self.run, daemon=True)
+        self.thread.start()
+
+    def run(self):
+        while True:
+            try:
+                link, _ = self.listener.accept()
+            except OSError:
+                return
+            with link:
+                try:
+                    self.serve(link)
+                except OSError:
+                    pass
+
+    def serve(self, link):
+        head = b""
+        while not head.endswith(b"\r\n\r\n"):
+            piece = link.recv(4096)
+            if not piece:
+                return
+            head += piece
+        self.heads.append(head.decode())
+        told = self.answer(len(self.heads) - 1)
+        if told is None:
+            link.setsockopt(socket.SOL_SOCKET, socket.SO_LINGER, struct.pack("ii", 1, 0))
+        else:
+            self.sent += len(told)
+            link.sendall(told)
+
+    def close(self):
+        self.listener.shutdown(socket.SHUT_RDWR)
+        self.thread.join()
+        self.listener.close()

@@ -1,141 +1,90 @@
--- The rows of `drill`.
-use Rattle.std.proofs.Common.{◌≡◌, ◌⊎◌, inl, inr, Result, Ok, Err, refl, sym, subst, arith}
-use Rattle.disk_model.specs.View.{DiskView, WhereTold}
+-- The command `drill` as rows of the table.
+use Rattle.std.proofs.Common.{◌≡◌, ◌⊎◌, ◌∙◌, inl, inr, ℕ, List, [], Option, Some, Result, Ok, Err, refl, sym, ap, arith}
+use Rattle.disk_model.specs.View.{DiskView, WhereTold, file_of}
 use Rattle.centre_drill.specs.Drill.{HoldsHistory}
 use Rattle.centre_drill.specs.History.{made_history}
 use Rattle.centre_drill.specs.declared.ending.DrillStop.{DrillStop}
-use Rattle.centre_drill.specs.declared.ending.DrillStop.TheVariants as drill
-use Rattle.command_words.specs.Commands.{DrillWords}
-use Rattle.centre.specs.declared.ending.Refusal.TheVariants.{UnknownCommand, Value, Order, Record, NoData, TooLarge, InputTooLong, NotEmpty, NotAJournal, Damaged, RequestCut}
-use Rattle.centre.specs.declared.ending.Stop.{Stop}
-use Rattle.centre.specs.declared.ending.Stop.TheVariants.{Refused, ReadFault, WriteFault, DiskFault, PortFault, OutOfMemory}
-use Rattle.centre.specs.Drills.{DrillEnding, IsDrill, stop_for_drill}
-use Rattle.centre.specs.Given.{World}
+use Rattle.centre_drill.specs.declared.ending.DrillStop.TheVariants as drilled
+use Rattle.command_words.specs.Commands.{DrillWords, drill}
+use Rattle.centre.specs.Drills.{DrillEnding, IsDrill, drill_text, stop_for_drill}
+use Rattle.centre.specs.Ends.{ending_by}
+use Rattle.centre.specs.Given.{World, Given, AreGiven}
 use Rattle.centre.specs.Status.{status_of_run}
 use Rattle.centre.specs.Table.{ToldFor}
+use Rattle.centre.specs.declared.ending.Refusal.TheVariants.{NotEmpty}
+use Rattle.centre.specs.declared.ending.Stop.{Stop}
+use Rattle.centre.proofs.Answering.{Ended, ended_by, gives, refuses, six, seven, seventy}
+use Rattle.centre.proofs.Files.{file_by, had_told, nothing_given, some_bytes, told_by as content_by}
+use Rattle.centre.proofs.Says as says
+use Rattle.centre.proofs.Says.{Says, says_by}
+use Rattle.centre.proofs.MemoryTexts.{MayRunOut, told_by}
 
--- a drill stops a run so
-pub drill_row : {D : Type 0} (view : D → DiskView) (w : DrillWords) (before after : World D) (stop : DrillStop) → IsDrill view w before after (Err stop) → DrillEnding view w before after (Err (stop_for_drill stop))
-drill_row view w before after drill.WriteFault row = row
-drill_row view w before after drill.DiskFault row = row
-drill_row view w before after (drill.NotEmpty length) row = (length, row)
-drill_row view w before after drill.OutOfMemory row = row
+-- no text of a drill has numbers
+starves : {D : Type 0} (view : D → DiskView) (w : DrillWords) (before after : World D) (stop : DrillStop) → MayRunOut (stop_for_drill stop) → IsDrill view w before after (Err stop) → IsDrill view w before after (Err drilled.OutOfMemory)
+starves view w before after drilled.WriteFault may row = absurd may
+starves view w before after drilled.DiskFault may row = absurd may
+starves view w before after (drilled.NotEmpty length) may row = absurd may
+starves view w before after drilled.OutOfMemory may row = absurd may
 
--- what is told has the row of the stop
 pub told_drill : {D : Type 0} (view : D → DiskView) (w : DrillWords) (before after : World D) (stop told : Stop) → DrillEnding view w before after (Err stop) → ToldFor stop told → DrillEnding view w before after (Err told)
-told_drill view w before after (Refused NotEmpty) told row e = let P : Stop → Type 0 = λ s. DrillEnding view w before after (Err s) in subst P (sym e) row
-told_drill view w before after WriteFault told row e = let P : Stop → Type 0 = λ s. DrillEnding view w before after (Err s) in subst P (sym e) row
-told_drill view w before after DiskFault told row e = let P : Stop → Type 0 = λ s. DrillEnding view w before after (Err s) in subst P (sym e) row
-told_drill view w before after OutOfMemory told row e = let P : Stop → Type 0 = λ s. DrillEnding view w before after (Err s) in subst P (sym e) row
-told_drill view w before after (Refused UnknownCommand) told row e = absurd row
-told_drill view w before after (Refused (Value word)) told row e = absurd row
-told_drill view w before after (Refused Order) told row e = absurd row
-told_drill view w before after (Refused (Record at fault)) told row e = absurd row
-told_drill view w before after (Refused NoData) told row e = absurd row
-told_drill view w before after (Refused (TooLarge bytes limit)) told row e = absurd row
-told_drill view w before after (Refused InputTooLong) told row e = absurd row
-told_drill view w before after (Refused NotAJournal) told row e = absurd row
-told_drill view w before after (Refused (Damaged at)) told row e = absurd row
-told_drill view w before after (Refused RequestCut) told row e = absurd row
-told_drill view w before after ReadFault told row e = absurd row
-told_drill view w before after PortFault told row e = absurd row
+told_drill view w before after stop told row e = told_by stop_for_drill (IsDrill view w before after) drilled.OutOfMemory refl (starves view w before after) stop told row e
 
--- the clock isn't asked
-pub drill_clock : {D : Type 0} (view : D → DiskView) (w : DrillWords) (before after : World D) (ending : Result (Unit {0}) Stop) → DrillEnding view w before after ending → after.given ≡ before.given
-drill_clock view w before after (Ok done) row = λ i. (row.others i).given
-drill_clock view w before after (Err WriteFault) row = λ i. (row.others i).given
-drill_clock view w before after (Err DiskFault) row = λ i. (row.others i).given
-drill_clock view w before after (Err OutOfMemory) row = λ i. (row.others i).given
-drill_clock view w before after (Err (Refused NotEmpty)) row = λ i. (row.1.others i).given
-drill_clock view w before after (Err (Refused UnknownCommand)) row = absurd row
-drill_clock view w before after (Err (Refused (Value word))) row = absurd row
-drill_clock view w before after (Err (Refused Order)) row = absurd row
-drill_clock view w before after (Err (Refused (Record at fault))) row = absurd row
-drill_clock view w before after (Err (Refused NoData)) row = absurd row
-drill_clock view w before after (Err (Refused (TooLarge bytes limit))) row = absurd row
-drill_clock view w before after (Err (Refused InputTooLong)) row = absurd row
-drill_clock view w before after (Err (Refused NotAJournal)) row = absurd row
-drill_clock view w before after (Err (Refused (Damaged at))) row = absurd row
-drill_clock view w before after (Err (Refused RequestCut)) row = absurd row
-drill_clock view w before after (Err ReadFault) row = absurd row
-drill_clock view w before after (Err PortFault) row = absurd row
+-- what an ending says
+module _ {D : Type 0} (view : D → DiskView) (w : DrillWords) (before after : World D) where
+  by : (outcome : Result (Unit {0}) DrillStop) → IsDrill view w before after outcome → Says view (Some (drill w)) before after (status_of_run (ending_by stop_for_drill outcome))
+  by (Ok done) row =
+      says.done view (Some (drill w)) before after (record {
+        given = nothing_given;
+        body = drill_text w.records;
+        had = had_told (view before.disk).content [] (λ told. (row.row.made.told told).empty);
+        answer = inl (refl, refl);
+        output = row.row.told;
+      })
+  by (Err drilled.WriteFault) row =
+      says.cut_short view (Some (drill w)) before after (record {
+        given = nothing_given;
+        body = drill_text w.records;
+        had = had_told (view before.disk).content [] (λ told. (row.row.made.told told).empty);
+        answer = inl (refl, refl);
+        rose = row.row.told.0;
+        output = row.row.told.1;
+      })
+  by (Err drilled.DiskFault) row = says.disk_stopped view (Some (drill w)) before after row.row.silent (row.row.run.cause tt)
+  by (Err (drilled.NotEmpty length)) row =
+      says.refused view (Some (drill w)) before after NotEmpty row.row.silent
+      (λ e told. let kept = (row.row.run.told told).kept in record { content = kept.content; images = kept.fewer }) (λ e. absurd (omega (arith, e)))
+  by (Err drilled.OutOfMemory) row = says.starved view (Some (drill w)) before after row.row.silent
 
--- and neither is a port
-pub drill_ports : {D : Type 0} (view : D → DiskView) (w : DrillWords) (before after : World D) (ending : Result (Unit {0}) Stop) → DrillEnding view w before after ending → after.ports ≡ before.ports
-drill_ports view w before after (Ok done) row = λ i. (row.others i).ports
-drill_ports view w before after (Err WriteFault) row = λ i. (row.others i).ports
-drill_ports view w before after (Err DiskFault) row = λ i. (row.others i).ports
-drill_ports view w before after (Err OutOfMemory) row = λ i. (row.others i).ports
-drill_ports view w before after (Err (Refused NotEmpty)) row = λ i. (row.1.others i).ports
-drill_ports view w before after (Err (Refused UnknownCommand)) row = absurd row
-drill_ports view w before after (Err (Refused (Value word))) row = absurd row
-drill_ports view w before after (Err (Refused Order)) row = absurd row
-drill_ports view w before after (Err (Refused (Record at fault))) row = absurd row
-drill_ports view w before after (Err (Refused NoData)) row = absurd row
-drill_ports view w before after (Err (Refused (TooLarge bytes limit))) row = absurd row
-drill_ports view w before after (Err (Refused InputTooLong)) row = absurd row
-drill_ports view w before after (Err (Refused NotAJournal)) row = absurd row
-drill_ports view w before after (Err (Refused (Damaged at))) row = absurd row
-drill_ports view w before after (Err (Refused RequestCut)) row = absurd row
-drill_ports view w before after (Err ReadFault) row = absurd row
-drill_ports view w before after (Err PortFault) row = absurd row
+  pub drill_says : (ending : Result (Unit {0}) Stop) → DrillEnding view w before after ending → Says view (Some (drill w)) before after (status_of_run ending)
+  drill_says ending row = says_by view (Some (drill w)) before after stop_for_drill (IsDrill view w before after) ending by row
 
--- nothing is written but by a drill that made its archive
-pub drill_kept : {D : Type 0} (view : D → DiskView) (w : DrillWords) (before after : World D) (stop : Stop) → DrillEnding view w before after (Err stop) → (status_of_run (Err stop) ≡ 6 → ⊥) → after.streams.sink ≡ before.streams.sink
-drill_kept view w before after WriteFault row not_cut = absurd (not_cut refl)
-drill_kept view w before after DiskFault row not_cut = row.row.silent
-drill_kept view w before after OutOfMemory row not_cut = row.row.silent
-drill_kept view w before after (Refused NotEmpty) row not_cut = row.1.row.silent
-drill_kept view w before after (Refused UnknownCommand) row not_cut = absurd row
-drill_kept view w before after (Refused (Value word)) row not_cut = absurd row
-drill_kept view w before after (Refused Order) row not_cut = absurd row
-drill_kept view w before after (Refused (Record at fault)) row not_cut = absurd row
-drill_kept view w before after (Refused NoData) row not_cut = absurd row
-drill_kept view w before after (Refused (TooLarge bytes limit)) row not_cut = absurd row
-drill_kept view w before after (Refused InputTooLong) row not_cut = absurd row
-drill_kept view w before after (Refused NotAJournal) row not_cut = absurd row
-drill_kept view w before after (Refused (Damaged at)) row not_cut = absurd row
-drill_kept view w before after (Refused RequestCut) row not_cut = absurd row
-drill_kept view w before after ReadFault row not_cut = absurd row
-drill_kept view w before after PortFault row not_cut = absurd row
+  -- with status 0 or 6 the archive of made records is on the disk
+  holds : (outcome : Result (Unit {0}) DrillStop) → IsDrill view w before after outcome → (status_of_run (ending_by stop_for_drill outcome) ≡ 0) ⊎ (status_of_run (ending_by stop_for_drill outcome) ≡ 6)
+      → WhereTold (view before.disk) (HoldsHistory (view after.disk) (made_history w.records))
+  holds (Ok done) row how told = (row.row.made.told told).holds
+  holds (Err drilled.WriteFault) row how told = (row.row.made.told told).holds
+  holds (Err drilled.DiskFault) row how told = absurd (elim how [ inl zero ↦ omega (arith, zero) | inr six ↦ omega (arith, six) ])
+  holds (Err (drilled.NotEmpty length)) row how told = absurd (elim how [ inl zero ↦ omega (arith, zero) | inr six ↦ omega (arith, six) ])
+  holds (Err drilled.OutOfMemory) row how told = absurd (elim how [ inl zero ↦ omega (arith, zero) | inr six ↦ omega (arith, six) ])
 
--- which is on the disk then
-pub drill_held : {D : Type 0} (view : D → DiskView) (w : DrillWords) (before after : World D) (ending : Result (Unit {0}) Stop) → DrillEnding view w before after ending → (status_of_run ending ≡ 0) ⊎ (status_of_run ending ≡ 6)
-    → WhereTold (view before.disk) (HoldsHistory (view after.disk) (made_history w.records))
-drill_held view w before after (Ok done) row how told = (row.row.made.told told).holds
-drill_held view w before after (Err WriteFault) row how told = (row.row.made.told told).holds
-drill_held view w before after (Err DiskFault) row how told = absurd (elim how [ inl zero ↦ omega (arith, zero) | inr six ↦ omega (arith, six) ])
-drill_held view w before after (Err OutOfMemory) row how told = absurd (elim how [ inl zero ↦ omega (arith, zero) | inr six ↦ omega (arith, six) ])
-drill_held view w before after (Err (Refused NotEmpty)) row how told = absurd (elim how [ inl zero ↦ omega (arith, zero) | inr six ↦ omega (arith, six) ])
-drill_held view w before after (Err (Refused UnknownCommand)) row how told = absurd row
-drill_held view w before after (Err (Refused (Value word))) row how told = absurd row
-drill_held view w before after (Err (Refused Order)) row how told = absurd row
-drill_held view w before after (Err (Refused (Record at fault))) row how told = absurd row
-drill_held view w before after (Err (Refused NoData)) row how told = absurd row
-drill_held view w before after (Err (Refused (TooLarge bytes limit))) row how told = absurd row
-drill_held view w before after (Err (Refused InputTooLong)) row how told = absurd row
-drill_held view w before after (Err (Refused NotAJournal)) row how told = absurd row
-drill_held view w before after (Err (Refused (Damaged at))) row how told = absurd row
-drill_held view w before after (Err (Refused RequestCut)) row how told = absurd row
-drill_held view w before after (Err ReadFault) row how told = absurd row
-drill_held view w before after (Err PortFault) row how told = absurd row
+  pub drill_held : (ending : Result (Unit {0}) Stop) → DrillEnding view w before after ending → (status_of_run ending ≡ 0) ⊎ (status_of_run ending ≡ 6)
+      → WhereTold (view before.disk) (HoldsHistory (view after.disk) (made_history w.records))
+  drill_held ending row how =
+      let same = sym (ap status_of_run row.same) in
+      holds row.outcome row.row (elim how [ inl zero ↦ inl (same ∙ zero) | inr six ↦ inr (same ∙ six) ])
 
--- a drill isn't told as words that are no command
-pub none_drilled : {D : Type 0} (view : D → DiskView) (w : DrillWords) (before after : World D) (ending : Result (Unit {0}) Stop) → DrillEnding view w before after ending → status_of_run ending ≡ 1 → ⊥
-none_drilled view w before after (Ok done) row e = omega (arith, e)
-none_drilled view w before after (Err WriteFault) row e = omega (arith, e)
-none_drilled view w before after (Err DiskFault) row e = omega (arith, e)
-none_drilled view w before after (Err OutOfMemory) row e = omega (arith, e)
-none_drilled view w before after (Err (Refused NotEmpty)) row e = omega (arith, e)
-none_drilled view w before after (Err (Refused UnknownCommand)) row e = row
-none_drilled view w before after (Err (Refused (Value word))) row e = row
-none_drilled view w before after (Err (Refused Order)) row e = row
-none_drilled view w before after (Err (Refused (Record at fault))) row e = row
-none_drilled view w before after (Err (Refused NoData)) row e = row
-none_drilled view w before after (Err (Refused (TooLarge bytes limit))) row e = row
-none_drilled view w before after (Err (Refused InputTooLong)) row e = row
-none_drilled view w before after (Err (Refused NotAJournal)) row e = row
-none_drilled view w before after (Err (Refused (Damaged at))) row e = row
-none_drilled view w before after (Err (Refused RequestCut)) row e = row
-none_drilled view w before after (Err ReadFault) row e = row
-none_drilled view w before after (Err PortFault) row e = row
+-- and the answer that it is
+module _ {D : Type 0} (view : D → DiskView) (w : DrillWords) (given : Given) (before after : World D) (e : AreGiven view (Some (drill w)) before after given) where
+  ends : (outcome : Result (Unit {0}) DrillStop) → IsDrill view w before after outcome → Ended (Some (drill w)) given (ending_by stop_for_drill outcome)
+  ends (Ok done) row =
+      let it = row.row.made.told (content_by e) in
+      gives (Some (drill w)) given (drill_text w.records) (inl (sym (file_by e) ∙ it.empty, refl))
+  ends (Err drilled.WriteFault) row = inl six
+  ends (Err drilled.DiskFault) row = inl seven
+  ends (Err (drilled.NotEmpty length)) row =
+      let was = row.row.run.told (content_by e) in
+      refuses (Some (drill w)) given NotEmpty (inr (λ none. some_bytes length (file_of (view before.disk)) was.len_is was.some (file_by e ∙ none), refl))
+  ends (Err drilled.OutOfMemory) row = inl seventy
+
+  pub drill_ended : (ending : Result (Unit {0}) Stop) → DrillEnding view w before after ending → Ended (Some (drill w)) given ending
+  drill_ended ending row = ended_by (Some (drill w)) given stop_for_drill (IsDrill view w before after) ending ends row

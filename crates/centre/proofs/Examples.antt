@@ -16,7 +16,7 @@ use Rattle.dataselect.specs.declared.query.DataQuery.{DataQuery}
 use Rattle.dataselect.specs.declared.query.Selection.{Selection}
 use Rattle.dataselect.specs.Query.{is_selected, is_asked}
 use Rattle.dataselect.specs.Segments.{segment_length}
-use Rattle.centre_select.specs.Answers.{IsBodyOf, RefusesInput}
+use Rattle.centre_select.specs.Answers.{IsBodyOf, IsSelectAnswer, RefusesInput}
 use Rattle.centre_select.specs.Status.{Tells}
 use Rattle.centre_select.specs.Table.{Streams, IsSelected}
 use Rattle.centre_select.specs.declared.ending.SelectRefusal.TheVariants as select_refusal
@@ -36,24 +36,27 @@ use Rattle.centre_select.proofs.OneQuery.{all_read}
 use Rattle.command_words.specs.declared.name.Shown.TheVariants.{Version}
 use Rattle.centre_select.specs.declared.ending.Word.TheVariants.{Network as NetworkWord, Station as StationWord, Location as LocationWord, Channel as ChannelWord}
 use Rattle.centre.specs.declared.ending.Refusal.{Refusal}
-use Rattle.centre.specs.declared.ending.Refusal.TheVariants.{UnknownCommand, Order, NotEmpty}
+use Rattle.centre.specs.declared.ending.Refusal.TheVariants.{UnknownCommand, Order, NotEmpty, Lost}
 use Rattle.centre.specs.declared.ending.Stop.TheVariants.{Refused, ReadFault}
 
 out_of_order : status_of (Refused Order) ≡ 2
 out_of_order = refl
+
+lost : (status_of (Refused Lost) ≡ 15) × (error_text_of (Refused Lost) ≡ codes "centre: connection lost\n")
+lost = (refl, refl)
 
 -- what `init` is asked for
 abbrev op_words : InitWords
 op_words = record { journal = codes "a.journal"; operator = codes "op"; ha1 = codes "939e7578ed9e3c518a452acee763bce9" }
 
 -- it makes an archive in an empty file alone
-made : IsAnswer (Some (init op_words)) (record { input = anmo_image; file = [] }) (Ok [])
-made = (refl, refl)
+made : IsAnswer (Some (init op_words)) (record { input = anmo_image; file = []; heard = [] }) (Ok [])
+made = inl (refl, refl)
 
-not_made : IsAnswer (Some (init op_words)) (record { input = []; file = codes "abc" }) (Err NotEmpty)
-not_made = λ e. cc
+not_made : IsAnswer (Some (init op_words)) (record { input = []; file = codes "abc"; heard = [] }) (Err NotEmpty)
+not_made = inr (λ e. cc, refl)
 
-version_asked : IsAnswer (Some (show Version)) (record { input = []; file = [] }) (Ok (codes "centre 0.1.0\n"))
+version_asked : IsAnswer (Some (show Version)) (record { input = []; file = []; heard = [] }) (Ok (codes "velkatsa 0.1.0\n"))
 version_asked = refl
 
 -- what `select` is asked for
@@ -217,10 +220,13 @@ refused : RefusesInput all_year 67_108_864 (anmo_image ++ codes "000002") (selec
 refused = record { within = omega arith; first = second }
 
 abbrev anmo_given : Given
-anmo_given = record { input = anmo_image; file = [] }
+anmo_given = record { input = anmo_image; file = []; heard = [] }
+
+chosen : IsSelectAnswer words anmo_image (Ok anmo_image)
+chosen = (all_year, asked_all, body)
 
 answer : IsAnswer (Some (select words)) anmo_given (Ok anmo_image)
-answer = (all_year, asked_all, body)
+answer = record { own = Ok anmo_image; is = chosen; same = refl }
 
 -- a run that wrote it, and one that told why it didn't begin
 abbrev no_disk : Unit {0} → DiskView
@@ -245,7 +251,7 @@ abbrev after : World (Unit {0})
 after = record { streams = streams_after; disk = tt; given = None; trail = None; ports = [] }
 
 selected : IsSelected words streams_before streams_after
-selected = record { input = anmo_image; body = anmo_image; had = refl; answer = answer; end = refl; output = refl }
+selected = record { input = anmo_image; body = anmo_image; had = refl; answer = chosen; end = refl; output = refl }
 
 written : HasWritten no_disk (Some (select words)) before after
 written = record { given = anmo_given; body = anmo_image; had = refl; answer = answer; output = refl }
@@ -260,7 +266,7 @@ told_unknown : Tells silent told (codes "centre: unknown command line\n")
 told_unknown = record { part = record { part = codes "centre: unknown command line\n"; rest = []; split = refl; output = refl }; whole = inl refl }
 
 run : (secret : Secret) → IsRun no_disk secret None before before silent told 1
-run secret = record { ending = Err (Refused UnknownCommand); row = inr refl; status_is = refl; text = told_unknown }
+run secret = record { ending = Err (Refused UnknownCommand); row = inr (refl, refl); status_is = refl; text = told_unknown }
 
 -- what words that are no command determine, whatever the input
 ends : EndsAs (Err UnknownCommand) silent told 1

@@ -1,7 +1,8 @@
 -- The command `select` as rows of the table.
-use Rattle.std.proofs.Common.{◌≡◌, ◌∙◌, ◌++◌, append_assoc, codes, inl, inr, ℕ, List, Result, Ok, Err, refl, sym, ap, subst}
+use Rattle.std.proofs.Common.{◌≡◌, ◌∙◌, ◌++◌, append_assoc, codes, false, inl, inr, ℕ, List, Option, Some, Result, Ok, Err, refl, sym, ap}
 use Rattle.std.specs.Fmt.{decimal}
-use Rattle.command_words.specs.Commands.{SelectWords}
+use Rattle.command_words.specs.Commands.{SelectWords, select}
+use Rattle.disk_model.specs.View.{DiskView}
 use Rattle.centre_select.specs.Answers.{IsSelectAnswer}
 use Rattle.centre_select.specs.Status.{ToldFor as ToldAs, error_text_of as select_text_of, status_of as select_status_of}
 use Rattle.centre_select.specs.Table.{Streams, SelectRow}
@@ -10,50 +11,30 @@ use Rattle.centre_select.specs.declared.ending.SelectRefusal.TheVariants as refu
 use Rattle.centre_select.specs.declared.ending.SelectStop.{SelectStop}
 use Rattle.centre_select.specs.declared.ending.SelectStop.TheVariants as stop
 use Rattle.centre_select.proofs.OneAnswer.{one_select}
-use Rattle.centre_select.proofs.Rows.{same_sink, starved}
+use Rattle.centre_select.proofs.Rows.{refused_answer, same_sink, selected_answer, starved}
 use Rattle.centre_select.proofs.SomeAnswer.{IsCutUp, some_select}
+use Rattle.centre.specs.Ends.{answer_by, ending_by}
+use Rattle.centre.specs.Given.{World, Given}
 use Rattle.centre.specs.Selects.{IsSelection, SelectEnding, refusal_for_select, stop_for_select}
-use Rattle.centre.specs.Status.{error_text_of, status_of}
+use Rattle.centre.specs.Status.{error_text_of, status_of, status_of_refusal, status_of_run}
 use Rattle.centre.specs.Table.{ToldFor}
 use Rattle.centre.specs.declared.ending.Refusal.{Refusal}
-use Rattle.centre.specs.declared.ending.Refusal.TheVariants.{UnknownCommand, Value, Order, Record, NoData, TooLarge, InputTooLong, NotEmpty, NotAJournal, Damaged, RequestCut}
 use Rattle.centre.specs.declared.ending.Stop.{Stop}
-use Rattle.centre.specs.declared.ending.Stop.TheVariants.{Refused, ReadFault, WriteFault, DiskFault, PortFault, OutOfMemory}
+use Rattle.centre.proofs.Answering.{Ended, ended_by, gives, one_by, refuses, five, six, seventy}
+use Rattle.centre.proofs.Files.{of_input}
+use Rattle.centre.proofs.Says as says
+use Rattle.centre.proofs.Says.{Says, is_odd, says_by}
+use Rattle.centre.proofs.MemoryTexts.{MayRunOut, told_by}
 
--- `select` stops a run so
-pub select_row : (w : SelectWords) (before after : Streams) (why : SelectStop) → SelectRow w before after (Err why) → SelectEnding w before after (Err (stop_for_select why))
-select_row w before after (stop.Refused (refusal.Value word)) row = row
-select_row w before after (stop.Refused refusal.Order) row = row
-select_row w before after (stop.Refused (refusal.Record at fault)) row = row
-select_row w before after (stop.Refused refusal.NoData) row = row
-select_row w before after (stop.Refused (refusal.TooLarge bytes limit)) row = row
-select_row w before after (stop.Refused refusal.InputTooLong) row = row
-select_row w before after stop.ReadFault row = row
-select_row w before after stop.WriteFault row = row
-select_row w before after stop.OutOfMemory row = row
+-- want of memory, told in the stead of a refusal, leaves the sink as it was
+starves : (w : SelectWords) (before after : Streams) (why : SelectStop) → MayRunOut (stop_for_select why) → SelectRow w before after (Err why) → SelectRow w before after (Err stop.OutOfMemory)
+starves w before after (stop.Refused why) may row = starved w before after why row
+starves w before after stop.ReadFault may row = absurd may
+starves w before after stop.WriteFault may row = absurd may
+starves w before after stop.OutOfMemory may row = absurd may
 
--- what is told has its row: want of memory, told in its stead, leaves the sink as it was
 pub told_select : (w : SelectWords) (before after : Streams) (stopped told : Stop) → SelectEnding w before after (Err stopped) → ToldFor stopped told → SelectEnding w before after (Err told)
-told_select w before after (Refused (Record at fault)) told row (inl same) = let P : Stop → Type 0 = λ s. SelectEnding w before after (Err s) in subst P (sym same) row
-told_select w before after (Refused (Record at fault)) told row (inr none) =
-    let P : Stop → Type 0 = λ s. SelectEnding w before after (Err s) in subst P (sym none) (starved w before after (refusal.Record at fault) row)
-told_select w before after (Refused (TooLarge bytes limit)) told row (inl same) = let P : Stop → Type 0 = λ s. SelectEnding w before after (Err s) in subst P (sym same) row
-told_select w before after (Refused (TooLarge bytes limit)) told row (inr none) =
-    let P : Stop → Type 0 = λ s. SelectEnding w before after (Err s) in subst P (sym none) (starved w before after (refusal.TooLarge bytes limit) row)
-told_select w before after (Refused (Value word)) told row e = let P : Stop → Type 0 = λ s. SelectEnding w before after (Err s) in subst P (sym e) row
-told_select w before after (Refused Order) told row e = let P : Stop → Type 0 = λ s. SelectEnding w before after (Err s) in subst P (sym e) row
-told_select w before after (Refused NoData) told row e = let P : Stop → Type 0 = λ s. SelectEnding w before after (Err s) in subst P (sym e) row
-told_select w before after (Refused InputTooLong) told row e = let P : Stop → Type 0 = λ s. SelectEnding w before after (Err s) in subst P (sym e) row
-told_select w before after ReadFault told row e = let P : Stop → Type 0 = λ s. SelectEnding w before after (Err s) in subst P (sym e) row
-told_select w before after WriteFault told row e = let P : Stop → Type 0 = λ s. SelectEnding w before after (Err s) in subst P (sym e) row
-told_select w before after OutOfMemory told row e = let P : Stop → Type 0 = λ s. SelectEnding w before after (Err s) in subst P (sym e) row
-told_select w before after (Refused UnknownCommand) told row e = absurd row
-told_select w before after (Refused NotEmpty) told row e = absurd row
-told_select w before after (Refused NotAJournal) told row e = absurd row
-told_select w before after (Refused (Damaged at)) told row e = absurd row
-told_select w before after (Refused RequestCut) told row e = absurd row
-told_select w before after DiskFault told row e = absurd row
-told_select w before after PortFault told row e = absurd row
+told_select w before after stopped told row e = told_by stop_for_select (SelectRow w before after) stop.OutOfMemory refl (starves w before after) stopped told row e
 
 -- a stop of `select` is told as the run's stop is, with the same status and the same text
 pub told_as : (why told : SelectStop) → ToldAs why told → ToldFor (stop_for_select why) (stop_for_select told)
@@ -91,68 +72,57 @@ same_status stop.ReadFault = refl
 same_status stop.WriteFault = refl
 same_status stop.OutOfMemory = refl
 
--- an answer of `select` as one of a run
-abbrev pub answer_for_select : Result (List ℕ) SelectRefusal → Result (List ℕ) Refusal
-answer_for_select (Ok body) = Ok body
-answer_for_select (Err why) = Err (refusal_for_select why)
-
-selection_of : (w : SelectWords) (input : List ℕ) (answer : Result (List ℕ) SelectRefusal) → IsSelectAnswer w input answer → IsSelection w input (answer_for_select answer)
-selection_of w input (Ok body) is = is
-selection_of w input (Err (refusal.Value word)) is = is
-selection_of w input (Err refusal.Order) is = is
-selection_of w input (Err (refusal.Record at fault)) is = is
-selection_of w input (Err refusal.NoData) is = is
-selection_of w input (Err (refusal.TooLarge bytes limit)) is = is
-selection_of w input (Err refusal.InputTooLong) is = is
-
-record IsOfSelect (w : SelectWords) (input : List ℕ) (answer : Result (List ℕ) Refusal) : Type 0 where
-  own : Result (List ℕ) SelectRefusal
-  is : IsSelectAnswer w input own
-  same : answer ≡ answer_for_select own
-
-of_select : (w : SelectWords) (input : List ℕ) (answer : Result (List ℕ) Refusal) → IsSelection w input answer → IsOfSelect w input answer
-of_select w input (Ok body) is = record { own = Ok body; is = is; same = refl }
-of_select w input (Err (Value word)) is = record { own = Err (refusal.Value word); is = is; same = refl }
-of_select w input (Err Order) is = record { own = Err refusal.Order; is = is; same = refl }
-of_select w input (Err (Record at fault)) is = record { own = Err (refusal.Record at fault); is = is; same = refl }
-of_select w input (Err NoData) is = record { own = Err refusal.NoData; is = is; same = refl }
-of_select w input (Err (TooLarge bytes limit)) is = record { own = Err (refusal.TooLarge bytes limit); is = is; same = refl }
-of_select w input (Err InputTooLong) is = record { own = Err refusal.InputTooLong; is = is; same = refl }
-of_select w input (Err UnknownCommand) is = absurd is
-of_select w input (Err NotEmpty) is = absurd is
-of_select w input (Err NotAJournal) is = absurd is
-of_select w input (Err (Damaged at)) is = absurd is
-of_select w input (Err RequestCut) is = absurd is
-
 -- there is one answer, and no other
 pub one_selection : (w : SelectWords) (input : List ℕ) (a b : Result (List ℕ) Refusal) → IsSelection w input a → IsSelection w input b → a ≡ b
-one_selection w input a b h k =
-    let p = of_select w input a h in
-    let q = of_select w input b k in
-    p.same ∙ ap answer_for_select (one_select w input p.own q.own p.is q.is) ∙ sym q.same
+one_selection w input a b p q = one_by refusal_for_select (IsSelectAnswer w input) (one_select w input) a b p q
 
 pub some_selection : (w : SelectWords) (input : List ℕ) → IsCutUp input → (answer : Result (List ℕ) Refusal) × IsSelection w input answer
-some_selection w input cut = let some = some_select w input cut in (answer_for_select some.0, selection_of w input some.0 some.1)
+some_selection w input cut = let some = some_select w input cut in (answer_by refusal_for_select some.0, record { own = some.0; is = some.1; same = refl })
 
--- where `select` neither wrote the body nor failed in writing, the sink is as it was
+-- what an ending says
+plain : (why : SelectRefusal) → is_odd (status_of_refusal (refusal_for_select why)) ≡ false
+plain (refusal.Value word) = refl
+plain refusal.Order = refl
+plain (refusal.Record at fault) = refl
+plain refusal.NoData = refl
+plain (refusal.TooLarge bytes limit) = refl
+plain refusal.InputTooLong = refl
+
 refusal_kept : (w : SelectWords) (before after : Streams) (why : SelectRefusal) → SelectRow w before after (Err (stop.Refused why)) → after.sink ≡ before.sink
 refusal_kept w before after why (inl row) = same_sink before after row.same
 refusal_kept w before after why (inr row) = row.kept
 
-pub select_kept : (w : SelectWords) (before after : Streams) (stopped : Stop) → SelectEnding w before after (Err stopped) → (status_of stopped ≡ 6 → ⊥) → after.sink ≡ before.sink
-select_kept w before after WriteFault row cut_not = absurd (cut_not refl)
-select_kept w before after (Refused (Value word)) row cut_not = refusal_kept w before after (refusal.Value word) row
-select_kept w before after (Refused Order) row cut_not = refusal_kept w before after refusal.Order row
-select_kept w before after (Refused (Record at fault)) row cut_not = refusal_kept w before after (refusal.Record at fault) row
-select_kept w before after (Refused NoData) row cut_not = refusal_kept w before after refusal.NoData row
-select_kept w before after (Refused (TooLarge bytes limit)) row cut_not = refusal_kept w before after (refusal.TooLarge bytes limit) row
-select_kept w before after (Refused InputTooLong) row cut_not = refusal_kept w before after refusal.InputTooLong row
-select_kept w before after ReadFault row cut_not = row.kept
-select_kept w before after OutOfMemory row cut_not = row
-select_kept w before after (Refused UnknownCommand) row cut_not = absurd row
-select_kept w before after (Refused NotEmpty) row cut_not = absurd row
-select_kept w before after (Refused NotAJournal) row cut_not = absurd row
-select_kept w before after (Refused (Damaged at)) row cut_not = absurd row
-select_kept w before after (Refused RequestCut) row cut_not = absurd row
-select_kept w before after DiskFault row cut_not = absurd row
-select_kept w before after PortFault row cut_not = absurd row
+module _ {D : Type 0} (view : D → DiskView) (w : SelectWords) (before after : World D) where
+  by : (outcome : Result (Unit {0}) SelectStop) → SelectRow w before.streams after.streams outcome → Says view (Some (select w)) before after (status_of_run (ending_by stop_for_select outcome))
+  by (Ok done) row =
+      says.done view (Some (select w)) before after
+      (record { given = of_input row.input; body = row.body; had = row.had; answer = record { own = Ok row.body; is = row.answer; same = refl }; output = row.output })
+  by (Err (stop.Refused why)) row = says.refused_plainly view (Some (select w)) before after (refusal_for_select why) (refusal_kept w before.streams after.streams why row) (plain why)
+  by (Err stop.ReadFault) row = says.read_stopped view (Some (select w)) before after row.kept row.rose
+  by (Err stop.WriteFault) row =
+      says.cut_short view (Some (select w)) before after (record {
+        given = of_input row.input;
+        body = row.body;
+        had = row.had;
+        answer = record { own = Ok row.body; is = row.answer; same = refl };
+        rose = row.rose;
+        output = row.output;
+      })
+  by (Err stop.OutOfMemory) row = says.starved view (Some (select w)) before after row
+
+  pub select_says : (ending : Result (Unit {0}) Stop) → SelectEnding w before.streams after.streams ending → Says view (Some (select w)) before after (status_of_run ending)
+  select_says ending row = says_by view (Some (select w)) before after stop_for_select (SelectRow w before.streams after.streams) ending by row
+
+-- and the answer that it is
+module _ (w : SelectWords) (given : Given) (before after : Streams) (e : before.source.left ≡ Some given.input) where
+  ends : (outcome : Result (Unit {0}) SelectStop) → SelectRow w before after outcome → Ended (Some (select w)) given (ending_by stop_for_select outcome)
+  ends (Ok done) row =
+      gives (Some (select w)) given row.body (record { own = Ok row.body; is = selected_answer w given.input row.body before after e row.input row.had row.answer; same = refl })
+  ends (Err (stop.Refused why)) row =
+      refuses (Some (select w)) given (refusal_for_select why) (record { own = Err why; is = refused_answer w given.input before after why e row; same = refl })
+  ends (Err stop.ReadFault) row = inl five
+  ends (Err stop.WriteFault) row = inl six
+  ends (Err stop.OutOfMemory) row = inl seventy
+
+  pub select_ended : (ending : Result (Unit {0}) Stop) → SelectEnding w before after ending → Ended (Some (select w)) given ending
+  select_ended ending row = ended_by (Some (select w)) given stop_for_select (SelectRow w before after) ending ends row

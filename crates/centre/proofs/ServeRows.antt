@@ -1,29 +1,26 @@
--- The rows of `serve`.
-use Rattle.std.proofs.Common.{◌≡◌, inl, inr, ℕ, Result, Ok, Err, refl, sym, subst, arith}
+-- The command `serve` as rows of the table.
+use Rattle.std.proofs.Common.{◌≡◌, inl, inr, ℕ, List, [], Option, Some, Result, Ok, Err, refl, ap, subst, arith}
 use Rattle.disk_model.specs.View.{DiskView}
-use Rattle.exact_time.specs.Causes.{Rose}
 use Rattle.http_digest.specs.declared.secret.Secret.{Secret}
+use Rattle.archive_log.specs.Histories.{IsHistoryOf}
+use Rattle.archive_log.specs.Opening.{IsStartFault}
 use Rattle.archive_log.specs.declared.fault.StartFault.TheVariants as start
 use Rattle.centre_serve.specs.Service.{Site, site, IsRefused, RanShort}
-use Rattle.centre_serve.specs.Whole.{OneRose}
 use Rattle.centre_serve.specs.declared.ending.ServeStop.{ServeStop}
-use Rattle.centre_serve.specs.declared.ending.ServeStop.TheVariants as serve_stop
-use Rattle.command_words.specs.Commands.{ServeWords}
-use Rattle.centre.specs.declared.ending.Refusal.TheVariants.{UnknownCommand, Value, Order, Record, NoData, TooLarge, InputTooLong, NotEmpty, NotAJournal, Damaged, RequestCut}
-use Rattle.centre.specs.declared.ending.Stop.{Stop}
-use Rattle.centre.specs.declared.ending.Stop.TheVariants.{Refused, ReadFault, WriteFault, DiskFault, PortFault, OutOfMemory}
-use Rattle.centre.specs.Given.{World}
-use Rattle.centre.specs.Serves.{IsServe, ServeEnding, stop_for_serve}
+use Rattle.centre_serve.specs.declared.ending.ServeStop.TheVariants as stopped
+use Rattle.command_words.specs.Commands.{ServeWords, serve}
+use Rattle.centre.specs.Ends.{ending_by}
+use Rattle.centre.specs.Given.{World, Given, AreGiven}
+use Rattle.centre.specs.Serves.{IsServe, ServeEnding, no_journal, damaged, opened, refuses as refuses_file, stop_for_serve}
 use Rattle.centre.specs.Status.{status_of_run}
 use Rattle.centre.specs.Table.{ToldFor}
-
--- a service stops a run so
-pub serve_row : {D : Type 0} (view : D → DiskView) (secret : Secret) (w : ServeWords) (before after : World D) (stop : ServeStop) → IsServe view secret w before after (Err stop) → ServeEnding view secret w before after (Err (stop_for_serve stop))
-serve_row view secret w before after serve_stop.DiskFault row = row
-serve_row view secret w before after serve_stop.PortFault row = row
-serve_row view secret w before after serve_stop.NotAJournal row = row
-serve_row view secret w before after (serve_stop.Damaged at) row = row
-serve_row view secret w before after serve_stop.OutOfMemory row = row
+use Rattle.centre.specs.declared.ending.Refusal.TheVariants.{NotAJournal, Damaged}
+use Rattle.centre.specs.declared.ending.Stop.{Stop}
+use Rattle.centre.proofs.Answering.{Ended, ended_by, gives, refuses, seven, eight, seventy}
+use Rattle.centre.proofs.Files.{file_by, not_opened, told_by as content_by}
+use Rattle.centre.proofs.Says as says
+use Rattle.centre.proofs.Says.{Says, says_by}
+use Rattle.centre.proofs.MemoryTexts.{MayRunOut, told_by}
 
 -- a journal that is damaged wasn't opened, and neither was it where memory runs out for the text that says so
 damaged_short : (before after : Site) (at : ℕ) → IsRefused before after (start.Damaged at) → RanShort before after
@@ -32,93 +29,51 @@ damaged_short before after at row = record {
   ports = row.ports;
 }
 
-short_service : {D : Type 0} (view : D → DiskView) (secret : Secret) (w : ServeWords) (before after : World D) (at : ℕ) → IsServe view secret w before after (Err (serve_stop.Damaged at)) → IsServe view secret w before after (Err serve_stop.OutOfMemory)
-short_service view secret w before after at row =
+starves : {D : Type 0} (view : D → DiskView) (secret : Secret) (w : ServeWords) (before after : World D) (stop : ServeStop) → MayRunOut (stop_for_serve stop) → IsServe view secret w before after (Err stop) → IsServe view secret w before after (Err stopped.OutOfMemory)
+starves view secret w before after (stopped.Damaged at) may row =
     record { limits = row.limits; limits_are = row.limits_are; others = row.others; row = damaged_short (site (view before.disk) before.ports) (site (view after.disk) after.ports) at row.row }
+starves view secret w before after stopped.DiskFault may row = absurd may
+starves view secret w before after stopped.PortFault may row = absurd may
+starves view secret w before after stopped.NotAJournal may row = absurd may
+starves view secret w before after stopped.OutOfMemory may row = absurd may
 
--- what is told has the row of the stop
 pub told_serve : {D : Type 0} (view : D → DiskView) (secret : Secret) (w : ServeWords) (before after : World D) (stop told : Stop) → ServeEnding view secret w before after (Err stop) → ToldFor stop told → ServeEnding view secret w before after (Err told)
-told_serve view secret w before after DiskFault told row e = let P : Stop → Type 0 = λ s. ServeEnding view secret w before after (Err s) in subst P (sym e) row
-told_serve view secret w before after PortFault told row e = let P : Stop → Type 0 = λ s. ServeEnding view secret w before after (Err s) in subst P (sym e) row
-told_serve view secret w before after OutOfMemory told row e = let P : Stop → Type 0 = λ s. ServeEnding view secret w before after (Err s) in subst P (sym e) row
-told_serve view secret w before after (Refused NotAJournal) told row e = let P : Stop → Type 0 = λ s. ServeEnding view secret w before after (Err s) in subst P (sym e) row
-told_serve view secret w before after (Refused (Damaged at)) told row (inl same) = let P : Stop → Type 0 = λ s. ServeEnding view secret w before after (Err s) in subst P (sym same) row
-told_serve view secret w before after (Refused (Damaged at)) told row (inr none) = let P : Stop → Type 0 = λ s. ServeEnding view secret w before after (Err s) in subst P (sym none) (short_service view secret w before after at row)
-told_serve view secret w before after ReadFault told row e = absurd row
-told_serve view secret w before after WriteFault told row e = absurd row
-told_serve view secret w before after (Refused UnknownCommand) told row e = absurd row
-told_serve view secret w before after (Refused (Value word)) told row e = absurd row
-told_serve view secret w before after (Refused Order) told row e = absurd row
-told_serve view secret w before after (Refused (Record at fault)) told row e = absurd row
-told_serve view secret w before after (Refused NoData) told row e = absurd row
-told_serve view secret w before after (Refused (TooLarge bytes limit)) told row e = absurd row
-told_serve view secret w before after (Refused InputTooLong) told row e = absurd row
-told_serve view secret w before after (Refused NotEmpty) told row e = absurd row
-told_serve view secret w before after (Refused RequestCut) told row e = absurd row
+told_serve view secret w before after stop told row e = told_by stop_for_serve (IsServe view secret w before after) stopped.OutOfMemory refl (starves view secret w before after) stop told row e
 
--- neither the clock nor the sink is asked
-pub serve_clock : {D : Type 0} (view : D → DiskView) (secret : Secret) (w : ServeWords) (before after : World D) (ending : Result (Unit {0}) Stop) → ServeEnding view secret w before after ending → after.given ≡ before.given
-serve_clock view secret w before after (Ok done) row = λ i. (row.others i).given
-serve_clock view secret w before after (Err DiskFault) row = λ i. (row.others i).given
-serve_clock view secret w before after (Err PortFault) row = λ i. (row.others i).given
-serve_clock view secret w before after (Err OutOfMemory) row = λ i. (row.others i).given
-serve_clock view secret w before after (Err (Refused NotAJournal)) row = λ i. (row.others i).given
-serve_clock view secret w before after (Err (Refused (Damaged at))) row = λ i. (row.others i).given
-serve_clock view secret w before after (Err ReadFault) row = absurd row
-serve_clock view secret w before after (Err WriteFault) row = absurd row
-serve_clock view secret w before after (Err (Refused UnknownCommand)) row = absurd row
-serve_clock view secret w before after (Err (Refused (Value word))) row = absurd row
-serve_clock view secret w before after (Err (Refused Order)) row = absurd row
-serve_clock view secret w before after (Err (Refused (Record at fault))) row = absurd row
-serve_clock view secret w before after (Err (Refused NoData)) row = absurd row
-serve_clock view secret w before after (Err (Refused (TooLarge bytes limit))) row = absurd row
-serve_clock view secret w before after (Err (Refused InputTooLong)) row = absurd row
-serve_clock view secret w before after (Err (Refused NotEmpty)) row = absurd row
-serve_clock view secret w before after (Err (Refused RequestCut)) row = absurd row
+-- what an ending says
+module _ {D : Type 0} (view : D → DiskView) (secret : Secret) (w : ServeWords) (before after : World D) where
+  by : (outcome : Result (Unit {0}) ServeStop) → IsServe view secret w before after outcome → Says view (Some (serve w)) before after (status_of_run (ending_by stop_for_serve outcome))
+  by (Ok done) row = says.done view (Some (serve w)) before after (λ i. (row.others i).streams.sink)
+  by (Err stopped.DiskFault) row =
+      says.disk_stopped view (Some (serve w)) before after (λ i. (row.others i).streams.sink) (elim row.row [ inl served ↦ served.serves.1 | inr refused ↦ refused.disk.cause refl ])
+  by (Err stopped.PortFault) row = says.port_stopped view (Some (serve w)) before after (λ i. (row.others i).streams.sink) row.row.serves.2
+  by (Err stopped.NotAJournal) row =
+      says.refused view (Some (serve w)) before after NotAJournal (λ i. (row.others i).streams.sink)
+      (λ e. not_opened (view before.disk) (view after.disk) (start.NotAJournal ≡ start.DiskFault) row.row.disk) (λ e. absurd (omega (arith, e)))
+  by (Err (stopped.Damaged at)) row =
+      says.refused view (Some (serve w)) before after (Damaged at) (λ i. (row.others i).streams.sink)
+      (λ e. not_opened (view before.disk) (view after.disk) (start.Damaged at ≡ start.DiskFault) row.row.disk) (λ e. absurd (omega (arith, e)))
+  by (Err stopped.OutOfMemory) row = says.starved view (Some (serve w)) before after (λ i. (row.others i).streams.sink)
 
--- nothing is written
-pub serve_kept : {D : Type 0} (view : D → DiskView) (secret : Secret) (w : ServeWords) (before after : World D) (ending : Result (Unit {0}) Stop) → ServeEnding view secret w before after ending → after.streams.sink ≡ before.streams.sink
-serve_kept view secret w before after (Ok done) row = λ i. (row.others i).streams.sink
-serve_kept view secret w before after (Err DiskFault) row = λ i. (row.others i).streams.sink
-serve_kept view secret w before after (Err PortFault) row = λ i. (row.others i).streams.sink
-serve_kept view secret w before after (Err OutOfMemory) row = λ i. (row.others i).streams.sink
-serve_kept view secret w before after (Err (Refused NotAJournal)) row = λ i. (row.others i).streams.sink
-serve_kept view secret w before after (Err (Refused (Damaged at))) row = λ i. (row.others i).streams.sink
-serve_kept view secret w before after (Err ReadFault) row = absurd row
-serve_kept view secret w before after (Err WriteFault) row = absurd row
-serve_kept view secret w before after (Err (Refused UnknownCommand)) row = absurd row
-serve_kept view secret w before after (Err (Refused (Value word))) row = absurd row
-serve_kept view secret w before after (Err (Refused Order)) row = absurd row
-serve_kept view secret w before after (Err (Refused (Record at fault))) row = absurd row
-serve_kept view secret w before after (Err (Refused NoData)) row = absurd row
-serve_kept view secret w before after (Err (Refused (TooLarge bytes limit))) row = absurd row
-serve_kept view secret w before after (Err (Refused InputTooLong)) row = absurd row
-serve_kept view secret w before after (Err (Refused NotEmpty)) row = absurd row
-serve_kept view secret w before after (Err (Refused RequestCut)) row = absurd row
+  pub serve_says : (ending : Result (Unit {0}) Stop) → ServeEnding view secret w before after ending → Says view (Some (serve w)) before after (status_of_run ending)
+  serve_says ending row = says_by view (Some (serve w)) before after stop_for_serve (IsServe view secret w before after) ending by row
 
--- a service isn't told as words that are no command
-pub none_served : {D : Type 0} (view : D → DiskView) (secret : Secret) (w : ServeWords) (before after : World D) (ending : Result (Unit {0}) Stop) → ServeEnding view secret w before after ending → status_of_run ending ≡ 1 → ⊥
-none_served view secret w before after (Ok done) row e = omega (arith, e)
-none_served view secret w before after (Err DiskFault) row e = omega (arith, e)
-none_served view secret w before after (Err PortFault) row e = omega (arith, e)
-none_served view secret w before after (Err OutOfMemory) row e = omega (arith, e)
-none_served view secret w before after (Err (Refused NotAJournal)) row e = omega (arith, e)
-none_served view secret w before after (Err (Refused (Damaged at))) row e = omega (arith, e)
-none_served view secret w before after (Err ReadFault) row e = row
-none_served view secret w before after (Err WriteFault) row e = row
-none_served view secret w before after (Err (Refused UnknownCommand)) row e = row
-none_served view secret w before after (Err (Refused (Value word))) row e = row
-none_served view secret w before after (Err (Refused Order)) row e = row
-none_served view secret w before after (Err (Refused (Record at fault))) row e = row
-none_served view secret w before after (Err (Refused NoData)) row e = row
-none_served view secret w before after (Err (Refused (TooLarge bytes limit))) row e = row
-none_served view secret w before after (Err (Refused InputTooLong)) row e = row
-none_served view secret w before after (Err (Refused NotEmpty)) row e = row
-none_served view secret w before after (Err (Refused RequestCut)) row e = row
+-- and the answer that it is
+module _ {D : Type 0} (view : D → DiskView) (secret : Secret) (w : ServeWords) (given : Given) (before after : World D) (e : AreGiven view (Some (serve w)) before after given) where
+  ends : (outcome : Result (Unit {0}) ServeStop) → IsServe view secret w before after outcome → Ended (Some (serve w)) given (ending_by stop_for_serve outcome)
+  ends (Ok done) row =
+      let run = row.row in
+      let F : List ℕ → Type 0 = λ file. IsHistoryOf file run.opening in
+      gives (Some (serve w)) given [] (opened run.opening (record { history = subst F (file_by e) (run.opened (content_by e)); some = run.some }) refl)
+  ends (Err stopped.NotAJournal) row =
+      let F : List ℕ → Type 0 = λ file. IsStartFault file start.NotAJournal in
+      refuses (Some (serve w)) given NotAJournal (refuses_file (no_journal (subst F (file_by e) (row.row.cause (content_by e))) refl))
+  ends (Err (stopped.Damaged at)) row =
+      let F : List ℕ → Type 0 = λ file. IsStartFault file (start.Damaged at) in
+      refuses (Some (serve w)) given (Damaged at) (refuses_file (damaged at (subst F (file_by e) (row.row.cause (content_by e))) refl))
+  ends (Err stopped.DiskFault) row = inl seven
+  ends (Err stopped.PortFault) row = inl eight
+  ends (Err stopped.OutOfMemory) row = inl seventy
 
--- status 7 and status 8 have their causes
-pub serve_disk : {D : Type 0} (view : D → DiskView) (secret : Secret) (w : ServeWords) (before after : World D) → ServeEnding view secret w before after (Err DiskFault) → Rose (view before.disk).faults (view after.disk).faults
-serve_disk view secret w before after row = elim row.row [ inl opened ↦ opened.serves.1 | inr refused ↦ refused.disk.cause refl ]
-
-pub serve_port : {D : Type 0} (view : D → DiskView) (secret : Secret) (w : ServeWords) (before after : World D) → ServeEnding view secret w before after (Err PortFault) → OneRose before.ports after.ports
-serve_port view secret w before after row = row.row.serves.2
+  pub serve_ended : (ending : Result (Unit {0}) Stop) → ServeEnding view secret w before after ending → Ended (Some (serve w)) given ending
+  serve_ended ending row = ended_by (Some (serve w)) given stop_for_serve (IsServe view secret w before after) ending ends row

@@ -1,29 +1,31 @@
 -- From the row of a run: what words and what is read determine decides its status.
-use Rattle.std.proofs.Common.{◌≡◌, ◌⊎◌, inl, inr, ℕ, List, Option, None, Some, Result, Ok, Err, refl, sym, ap, ◌∙◌, subst, arith}
+use Rattle.std.proofs.Common.{◌≡◌, ◌⊎◌, inl, inr, false, true, ℕ, List, Option, None, Some, Result, Ok, Err, refl, sym, ap, ◌∙◌, subst, arith}
+use Rattle.std.proofs.lemmas.Bool.{false≢true}
 use Rattle.exact_time.specs.Causes.{Rose}
+use Rattle.exact_time.specs.declared.moment.Moment.{Moment}
 use Rattle.disk_model.specs.View.{DiskView, WhereTold}
-use Rattle.centre.specs.declared.ending.Refusal.{Refusal}
-use Rattle.centre.specs.declared.ending.Refusal.TheVariants.{UnknownCommand, Value, Order, Record, NoData, TooLarge, InputTooLong, NotEmpty, NotAJournal, Damaged, RequestCut}
-use Rattle.centre.specs.declared.ending.Stop.{Stop}
-use Rattle.centre.specs.declared.ending.Stop.TheVariants.{Refused, ReadFault, WriteFault, DiskFault, PortFault, OutOfMemory}
-use Rattle.centre.specs.Answers.{IsAnswer}
-use Rattle.command_words.specs.Commands.{InitWords, TalkWords, ServeWords, DrillWords, Command, select, init, talk, serve, drill, show}
-use Rattle.centre.specs.Given.{World, Given, AreGiven, Told}
-use Rattle.centre.specs.Settled.{IsFree, ComesWhere, IsComplete, IsCutShort, IsSettled, HasWritten, IsRefused, IsTooLarge, HoldsNewArchive, KeepsFile, KeepsUnused, status_of_answer, text_of_answer}
-use Rattle.centre.specs.Status.{status_of_run, text_of_run}
+use Rattle.http_digest.specs.declared.secret.Secret.{Secret}
 use Rattle.streams.specs.View.{StreamView}
-use Rattle.centre_select.specs.Status.{Tells}
-use Rattle.centre.specs.Table.{IsEnding, IsRun}
 use Rattle.centre_drill.specs.Drill.{HoldsHistory}
 use Rattle.centre_drill.specs.History.{made_history}
+use Rattle.centre_select.specs.Status.{Tells}
+use Rattle.command_words.specs.Commands.{InitWords, TalkWords, ServeWords, DrillWords, FetchWords, Command, select, init, talk, serve, drill, fetch, show}
+use Rattle.centre.specs.Answers.{IsAnswer}
+use Rattle.centre.specs.Given.{World, Given, AreGiven, Told}
+use Rattle.centre.specs.Settled.{IsFree, ComesWhere, IsComplete, IsCutShort, IsSettled, IsRefused, IsTooLarge, IsNoArchive, IsPeerRefusal, IsUnsettled, IsUnknown, HoldsNewArchive, KeepsUnused, KeepsSink, KeepsPorts, AsksNoClock, HasEndedTalk, HasEndedServe, HasEndedFetch, RunRows, status_of_answer, text_of_answer}
+use Rattle.centre.specs.Status.{status_of_run, text_of_run}
+use Rattle.centre.specs.Table.{IsEnding, IsRun, IsStarved}
+use Rattle.centre.specs.declared.ending.Refusal.{Refusal}
+use Rattle.centre.specs.declared.ending.Refusal.TheVariants.{NoData, TooLarge, InputTooLong, NotEmpty, NotAJournal, Damaged, RequestCut, Peer, BadReply, Lost, Moved, Requests}
+use Rattle.centre.specs.declared.ending.Stop.{Stop}
+use Rattle.centre.specs.declared.ending.Stop.TheVariants.{OutOfMemory}
+use Rattle.centre.proofs.DrillRows.{drill_held}
+use Rattle.centre.proofs.InitRows.{init_founded}
 use Rattle.centre.proofs.OneAnswer.{one_answer}
-use Rattle.exact_time.specs.declared.moment.Moment.{Moment}
-use Rattle.http_digest.specs.declared.secret.Secret.{Secret}
-use Rattle.centre.specs.Settled.{KeepsSink, AsksNoClock, IsNoArchive, IsUnknown, KeepsPorts, HasEndedTalk, HasEndedServe, RunRows}
-use Rattle.centre.specs.Table.{IsStarved}
-use Rattle.centre_serve.specs.Whole.{OneRose}
-use Rattle.centre.proofs.Finished.{ended}
-use Rattle.centre.proofs.Cases.{written, cut_row, rose_row, disk_row, kept_row, unused_row, clock_row, port_row, ports_row, nine_row, founded_row, drilled_row, no_fault, one_is_unknown, unknown_is_one}
+use Rattle.centre.proofs.Rows.{ended, says, unused_row, clock_row, ports_row}
+use Rattle.centre.proofs.Says as said
+use Rattle.centre.proofs.Says.{Says, free_is, is_free}
+use Rattle.centre.proofs.Statuses.{Of, of_status}
 
 -- an answer with this status
 record HasStatus (command : Option Command) (given : Given) (status : ℕ) : Type 0 where
@@ -31,86 +33,15 @@ record HasStatus (command : Option Command) (given : Given) (status : ℕ) : Typ
   is : IsAnswer command given answer
   status_is : status_of_answer answer ≡ status
 
-two_is : (command : Option Command) (given : Given) (answer : Result (List ℕ) Refusal) → IsAnswer command given answer → status_of_answer answer ≡ 2 → IsRefused command given
-two_is command given (Ok body) is e = absurd (omega (arith, e))
-two_is command given (Err refusal) is e = record { refusal = refusal; answer = is; status_is = e }
-
-three_is : (command : Option Command) (given : Given) (answer : Result (List ℕ) Refusal) → IsAnswer command given answer → status_of_answer answer ≡ 3 → IsAnswer command given (Err NoData)
-three_is command given (Err NoData) is e = is
-three_is command given (Ok body) is e = absurd (omega (arith, e))
-three_is command given (Err NotEmpty) is e = absurd (omega (arith, e))
-three_is command given (Err NotAJournal) is e = absurd (omega (arith, e))
-three_is command given (Err (Damaged at)) is e = absurd (omega (arith, e))
-three_is command given (Err RequestCut) is e = absurd (omega (arith, e))
-three_is command given (Err UnknownCommand) is e = absurd (omega (arith, e))
-three_is command given (Err (Value word)) is e = absurd (omega (arith, e))
-three_is command given (Err Order) is e = absurd (omega (arith, e))
-three_is command given (Err (Record at fault)) is e = absurd (omega (arith, e))
-three_is command given (Err (TooLarge bytes limit)) is e = absurd (omega (arith, e))
-three_is command given (Err InputTooLong) is e = absurd (omega (arith, e))
-
-four_is : (command : Option Command) (given : Given) (answer : Result (List ℕ) Refusal) → IsAnswer command given answer → status_of_answer answer ≡ 4 → IsTooLarge command given
-four_is command given (Err (TooLarge bytes limit)) is e = record { bytes = bytes; limit = limit; answer = is }
-four_is command given (Ok body) is e = absurd (omega (arith, e))
-four_is command given (Err NotEmpty) is e = absurd (omega (arith, e))
-four_is command given (Err NotAJournal) is e = absurd (omega (arith, e))
-four_is command given (Err (Damaged at)) is e = absurd (omega (arith, e))
-four_is command given (Err RequestCut) is e = absurd (omega (arith, e))
-four_is command given (Err UnknownCommand) is e = absurd (omega (arith, e))
-four_is command given (Err (Value word)) is e = absurd (omega (arith, e))
-four_is command given (Err Order) is e = absurd (omega (arith, e))
-four_is command given (Err (Record at fault)) is e = absurd (omega (arith, e))
-four_is command given (Err NoData) is e = absurd (omega (arith, e))
-four_is command given (Err InputTooLong) is e = absurd (omega (arith, e))
-
-ten_is : (command : Option Command) (given : Given) (answer : Result (List ℕ) Refusal) → IsAnswer command given answer → status_of_answer answer ≡ 10 → IsAnswer command given (Err InputTooLong)
-ten_is command given (Err InputTooLong) is e = is
-ten_is command given (Ok body) is e = absurd (omega (arith, e))
-ten_is command given (Err NotEmpty) is e = absurd (omega (arith, e))
-ten_is command given (Err NotAJournal) is e = absurd (omega (arith, e))
-ten_is command given (Err (Damaged at)) is e = absurd (omega (arith, e))
-ten_is command given (Err RequestCut) is e = absurd (omega (arith, e))
-ten_is command given (Err UnknownCommand) is e = absurd (omega (arith, e))
-ten_is command given (Err (Value word)) is e = absurd (omega (arith, e))
-ten_is command given (Err Order) is e = absurd (omega (arith, e))
-ten_is command given (Err (Record at fault)) is e = absurd (omega (arith, e))
-ten_is command given (Err NoData) is e = absurd (omega (arith, e))
-ten_is command given (Err (TooLarge bytes limit)) is e = absurd (omega (arith, e))
-
-nine_is : (command : Option Command) (given : Given) (answer : Result (List ℕ) Refusal) → IsAnswer command given answer → status_of_answer answer ≡ 9 → IsNoArchive command given
-nine_is command given (Err NotEmpty) is e = inl is
-nine_is command given (Err NotAJournal) is e = inr (inl is)
-nine_is command given (Err (Damaged at)) is e = inr (inr (at, is))
-nine_is command given (Ok body) is e = absurd (omega (arith, e))
-nine_is command given (Err UnknownCommand) is e = absurd (omega (arith, e))
-nine_is command given (Err (Value word)) is e = absurd (omega (arith, e))
-nine_is command given (Err Order) is e = absurd (omega (arith, e))
-nine_is command given (Err (Record at fault)) is e = absurd (omega (arith, e))
-nine_is command given (Err NoData) is e = absurd (omega (arith, e))
-nine_is command given (Err (TooLarge bytes limit)) is e = absurd (omega (arith, e))
-nine_is command given (Err InputTooLong) is e = absurd (omega (arith, e))
-nine_is command given (Err RequestCut) is e = absurd (omega (arith, e))
-
-eleven_is : (command : Option Command) (given : Given) (answer : Result (List ℕ) Refusal) → IsAnswer command given answer → status_of_answer answer ≡ 11 → IsAnswer command given (Err RequestCut)
-eleven_is command given (Err RequestCut) is e = is
-eleven_is command given (Ok body) is e = absurd (omega (arith, e))
-eleven_is command given (Err UnknownCommand) is e = absurd (omega (arith, e))
-eleven_is command given (Err (Value word)) is e = absurd (omega (arith, e))
-eleven_is command given (Err Order) is e = absurd (omega (arith, e))
-eleven_is command given (Err (Record at fault)) is e = absurd (omega (arith, e))
-eleven_is command given (Err NoData) is e = absurd (omega (arith, e))
-eleven_is command given (Err (TooLarge bytes limit)) is e = absurd (omega (arith, e))
-eleven_is command given (Err InputTooLong) is e = absurd (omega (arith, e))
-eleven_is command given (Err NotEmpty) is e = absurd (omega (arith, e))
-eleven_is command given (Err NotAJournal) is e = absurd (omega (arith, e))
-eleven_is command given (Err (Damaged at)) is e = absurd (omega (arith, e))
-
-not_free : (n : ℕ) → (n ≡ 5 → ⊥) → (n ≡ 6 → ⊥) → (n ≡ 7 → ⊥) → (n ≡ 8 → ⊥) → (n ≡ 70 → ⊥) → IsFree n → ⊥
-not_free n five six seven eight seventy (inl e) = five e
-not_free n five six seven eight seventy (inr (inl e)) = six e
-not_free n five six seven eight seventy (inr (inr (inl e))) = seven e
-not_free n five six seven eight seventy (inr (inr (inr (inl e)))) = eight e
-not_free n five six seven eight seventy (inr (inr (inr (inr e)))) = seventy e
+-- is one of the refusals that have it
+refusals : (command : Option Command) (given : Given) (status : ℕ) → (status ≡ 0 → ⊥) → HasStatus command given status → Of (λ refusal. IsAnswer command given (Err refusal)) status
+refusals command given status some has = by has.answer has.is has.status_is
+  where
+    by : (answer : Result (List ℕ) Refusal) → IsAnswer command given answer → status_of_answer answer ≡ status → Of (λ refusal. IsAnswer command given (Err refusal)) status
+    by (Ok body) is e = absurd (some (sym e))
+    by (Err refusal) is e =
+        let P : Refusal → Type 0 = λ r. IsAnswer command given (Err r) in
+        subst (λ (n : ℕ). Of P n) e (of_status P refusal is)
 
 module _ {D : Type 0} (view : D → DiskView) (secret : Secret) (command : Option Command) (before after : World D) (old new : StreamView) (status : ℕ) (run : IsRun view secret command before after old new status) where
   -- the answer decides
@@ -154,18 +85,21 @@ module _ {D : Type 0} (view : D → DiskView) (secret : Secret) (command : Optio
 
   pub refused_comes : Told view command before after (λ given. ComesWhere status 2 (IsRefused command given))
   refused_comes =
-      comes 2 (λ given. IsRefused command given) (not_free 2 (λ e. omega (arith, e)) (λ e. omega (arith, e)) (λ e. omega (arith, e)) (λ e. omega (arith, e)) (λ e. omega (arith, e)))
-      (λ given has. two_is command given has.answer has.is has.status_is) (λ given h. record { answer = Err h.refusal; is = h.answer; status_is = h.status_is })
+      comes 2 (λ given. IsRefused command given) (λ free. false≢true (free_is 2 free))
+      (λ given has. let h = refusals command given 2 (λ e. omega (arith, e)) has in record { refusal = h.0; answer = h.1; status_is = h.2 })
+      (λ given h. record { answer = Err h.refusal; is = h.answer; status_is = h.status_is })
 
   pub no_data_comes : Told view command before after (λ given. ComesWhere status 3 (IsAnswer command given (Err NoData)))
   no_data_comes =
-      comes 3 (λ given. IsAnswer command given (Err NoData)) (not_free 3 (λ e. omega (arith, e)) (λ e. omega (arith, e)) (λ e. omega (arith, e)) (λ e. omega (arith, e)) (λ e. omega (arith, e)))
-      (λ given has. three_is command given has.answer has.is has.status_is) (λ given h. record { answer = Err NoData; is = h; status_is = refl })
+      comes 3 (λ given. IsAnswer command given (Err NoData)) (λ free. false≢true (free_is 3 free))
+      (λ given has. refusals command given 3 (λ e. omega (arith, e)) has)
+      (λ given h. record { answer = Err NoData; is = h; status_is = refl })
 
   pub too_large_comes : Told view command before after (λ given. ComesWhere status 4 (IsTooLarge command given))
   too_large_comes =
-      comes 4 (λ given. IsTooLarge command given) (not_free 4 (λ e. omega (arith, e)) (λ e. omega (arith, e)) (λ e. omega (arith, e)) (λ e. omega (arith, e)) (λ e. omega (arith, e)))
-      (λ given has. four_is command given has.answer has.is has.status_is) (λ given h. record { answer = Err (TooLarge h.bytes h.limit); is = h.answer; status_is = refl })
+      comes 4 (λ given. IsTooLarge command given) (λ free. false≢true (free_is 4 free))
+      (λ given has. let h = refusals command given 4 (λ e. omega (arith, e)) has in record { bytes = h.0; limit = h.1; answer = h.2 })
+      (λ given h. record { answer = Err (TooLarge h.bytes h.limit); is = h.answer; status_is = refl })
 
   archive_status : (given : Given) → IsNoArchive command given → HasStatus command given 9
   archive_status given (inl h) = record { answer = Err NotEmpty; is = h; status_is = refl }
@@ -174,18 +108,49 @@ module _ {D : Type 0} (view : D → DiskView) (secret : Secret) (command : Optio
 
   pub no_archive_comes : Told view command before after (λ given. ComesWhere status 9 (IsNoArchive command given))
   no_archive_comes =
-      comes 9 (λ given. IsNoArchive command given) (not_free 9 (λ e. omega (arith, e)) (λ e. omega (arith, e)) (λ e. omega (arith, e)) (λ e. omega (arith, e)) (λ e. omega (arith, e)))
-      (λ given has. nine_is command given has.answer has.is has.status_is) archive_status
-
-  pub request_cut_comes : Told view command before after (λ given. ComesWhere status 11 (IsAnswer command given (Err RequestCut)))
-  request_cut_comes =
-      comes 11 (λ given. IsAnswer command given (Err RequestCut)) (not_free 11 (λ e. omega (arith, e)) (λ e. omega (arith, e)) (λ e. omega (arith, e)) (λ e. omega (arith, e)) (λ e. omega (arith, e)))
-      (λ given has. eleven_is command given has.answer has.is has.status_is) (λ given h. record { answer = Err RequestCut; is = h; status_is = refl })
+      comes 9 (λ given. IsNoArchive command given) (λ free. false≢true (free_is 9 free))
+      (λ given has. refusals command given 9 (λ e. omega (arith, e)) has)
+      archive_status
 
   pub too_long_comes : Told view command before after (λ given. ComesWhere status 10 (IsAnswer command given (Err InputTooLong)))
   too_long_comes =
-      comes 10 (λ given. IsAnswer command given (Err InputTooLong)) (not_free 10 (λ e. omega (arith, e)) (λ e. omega (arith, e)) (λ e. omega (arith, e)) (λ e. omega (arith, e)) (λ e. omega (arith, e)))
-      (λ given has. ten_is command given has.answer has.is has.status_is) (λ given h. record { answer = Err InputTooLong; is = h; status_is = refl })
+      comes 10 (λ given. IsAnswer command given (Err InputTooLong)) (λ free. false≢true (free_is 10 free))
+      (λ given has. refusals command given 10 (λ e. omega (arith, e)) has)
+      (λ given h. record { answer = Err InputTooLong; is = h; status_is = refl })
+
+  pub request_cut_comes : Told view command before after (λ given. ComesWhere status 11 (IsAnswer command given (Err RequestCut)))
+  request_cut_comes =
+      comes 11 (λ given. IsAnswer command given (Err RequestCut)) (λ free. false≢true (free_is 11 free))
+      (λ given has. refusals command given 11 (λ e. omega (arith, e)) has)
+      (λ given h. record { answer = Err RequestCut; is = h; status_is = refl })
+
+  pub peer_comes : Told view command before after (λ given. ComesWhere status 13 (IsPeerRefusal command given))
+  peer_comes =
+      comes 13 (λ given. IsPeerRefusal command given) (λ free. false≢true (free_is 13 free))
+      (λ given has. refusals command given 13 (λ e. omega (arith, e)) has)
+      (λ given h. record { answer = Err (Peer h.0); is = h.1; status_is = refl })
+
+  pub bad_reply_comes : Told view command before after (λ given. ComesWhere status 14 (IsAnswer command given (Err BadReply)))
+  bad_reply_comes =
+      comes 14 (λ given. IsAnswer command given (Err BadReply)) (λ free. false≢true (free_is 14 free))
+      (λ given has. refusals command given 14 (λ e. omega (arith, e)) has)
+      (λ given h. record { answer = Err BadReply; is = h; status_is = refl })
+
+  round_status : (given : Given) → IsUnsettled command given → HasStatus command given 15
+  round_status given (inl h) = record { answer = Err Lost; is = h; status_is = refl }
+  round_status given (inr h) = record { answer = Err (Moved h.0 h.1); is = h.2; status_is = refl }
+
+  pub unsettled_comes : Told view command before after (λ given. ComesWhere status 15 (IsUnsettled command given))
+  unsettled_comes =
+      comes 15 (λ given. IsUnsettled command given) (λ free. false≢true (free_is 15 free))
+      (λ given has. refusals command given 15 (λ e. omega (arith, e)) has)
+      round_status
+
+  pub requests_come : Told view command before after (λ given. ComesWhere status 18 (IsAnswer command given (Err Requests)))
+  requests_come =
+      comes 18 (λ given. IsAnswer command given (Err Requests)) (λ free. false≢true (free_is 18 free))
+      (λ given has. refusals command given 18 (λ e. omega (arith, e)) has)
+      (λ given h. record { answer = Err Requests; is = h; status_is = refl })
 
 -- what stays as it was is kept, whatever the command
 kept_same : (command : Option Command) (old new : StreamView) → new ≡ old → KeepsSink command old new
@@ -196,6 +161,7 @@ kept_same (Some (init w)) old new same = same
 kept_same (Some (talk w)) old new same = tt
 kept_same (Some (serve w)) old new same = same
 kept_same (Some (drill w)) old new same = same
+kept_same (Some (fetch w)) old new same = same
 
 unused_same : {D : Type 0} (command : Option Command) (old new : D) → new ≡ old → KeepsUnused command old new
 unused_same None old new same = same
@@ -205,6 +171,7 @@ unused_same (Some (init w)) old new same = tt
 unused_same (Some (talk w)) old new same = tt
 unused_same (Some (serve w)) old new same = tt
 unused_same (Some (drill w)) old new same = tt
+unused_same (Some (fetch w)) old new same = same
 
 clock_same : (command : Option Command) (old new : Option (List Moment)) → new ≡ old → AsksNoClock command old new
 clock_same None old new same = same
@@ -214,6 +181,7 @@ clock_same (Some (init w)) old new same = same
 clock_same (Some (talk w)) old new same = tt
 clock_same (Some (serve w)) old new same = same
 clock_same (Some (drill w)) old new same = same
+clock_same (Some (fetch w)) old new same = same
 
 part_rose : {D : Type 0} (view : D → DiskView) (command : Option Command) (before after : World D) → IsCutShort view command before after → Rose before.streams.sink.faults after.streams.sink.faults
 part_rose view None before after cut = cut.rose
@@ -223,58 +191,33 @@ part_rose view (Some (init w)) before after cut = cut.rose
 part_rose view (Some (talk w)) before after cut = cut
 part_rose view (Some (serve w)) before after cut = cut.rose
 part_rose view (Some (drill w)) before after cut = cut.rose
+part_rose view (Some (fetch w)) before after cut = cut.rose
 
 module _ {D : Type 0} (view : D → DiskView) (secret : Secret) (command : Option Command) (before after : World D) (old new : StreamView) (status : ℕ) (run : IsRun view secret command before after old new status) where
   -- where memory ran out before the words were read the status is 70, and nothing changed
   starved_status : IsStarved before after run.ending → status ≡ 70
   starved_status starved = run.status_is ∙ ap status_of_run starved.0
 
+  it_says : Says view command before after status
+  it_says = elim run.row [
+    | inl starved ↦ subst (λ (n : ℕ). Says view command before after n) (sym (starved_status starved))
+        (said.starved view command before after (kept_same command before.streams.sink after.streams.sink (λ i. (starved.1 i).streams.sink)))
+    | inr row ↦ subst (λ (n : ℕ). Says view command before after n) (sym run.status_is) (says view secret command before after run.ending row)
+  ]
+
   unknown : IsUnknown command status
   unknown = record {
-    only = λ one. elim run.row [
-      | inl starved ↦ absurd (let e = starved_status starved in omega (arith, e, one))
-      | inr row ↦ one_is_unknown view secret command before after run.ending row (sym run.status_is ∙ one)
-    ];
+    only = it_says.unknown;
     always = λ none. elim run.row [
       | inl starved ↦ inl (starved_status starved)
-      | inr row ↦ inr (run.status_is ∙ unknown_is_one before after run.ending (subst (λ (c : Option Command). IsEnding view secret c before after run.ending) none row))
+      | inr row ↦ inr (run.status_is ∙ ap status_of_run (subst (λ (c : Option Command). IsEnding view secret c before after run.ending) none row).0)
     ];
   }
-
-  cut_short : status ≡ 6 → IsCutShort view command before after
-  cut_short six = elim run.row [
-    | inl starved ↦ absurd (let e = starved_status starved in omega (arith, e, six))
-    | inr row ↦ cut_row view secret command before after run.ending row (sym run.status_is ∙ six)
-  ]
-
-  read_rose : status ≡ 5 → Rose before.streams.source.faults after.streams.source.faults
-  read_rose five = elim run.row [
-    | inl starved ↦ absurd (let e = starved_status starved in omega (arith, e, five))
-    | inr row ↦ rose_row view secret command before after run.ending row (sym run.status_is ∙ five)
-  ]
-
-  disk_rose : status ≡ 7 → Rose (view before.disk).faults (view after.disk).faults
-  disk_rose seven = elim run.row [
-    | inl starved ↦ absurd (let e = starved_status starved in omega (arith, e, seven))
-    | inr row ↦ disk_row view secret command before after run.ending row (sym run.status_is ∙ seven)
-  ]
-
-  port_rose : status ≡ 8 → OneRose before.ports after.ports
-  port_rose eight = elim run.row [
-    | inl starved ↦ absurd (let e = starved_status starved in omega (arith, e, eight))
-    | inr row ↦ port_row view secret command before after run.ending row (sym run.status_is ∙ eight)
-  ]
 
   ports : (status ≡ 70 → ⊥) → KeepsPorts command before.ports after.ports
   ports not_short = elim run.row [
     | inl starved ↦ absurd (not_short (starved_status starved))
     | inr row ↦ ports_row view secret command before after run.ending row
-  ]
-
-  kept : (status ≡ 0 → ⊥) → (status ≡ 6 → ⊥) → KeepsSink command before.streams.sink after.streams.sink
-  kept done_not cut_not = elim run.row [
-    | inl starved ↦ kept_same command before.streams.sink after.streams.sink (λ i. (starved.1 i).streams.sink)
-    | inr row ↦ kept_row view secret command before after run.ending row (λ e. done_not (run.status_is ∙ e)) (λ e. cut_not (run.status_is ∙ e))
   ]
 
   unused : KeepsUnused command before.disk after.disk
@@ -289,91 +232,71 @@ module _ {D : Type 0} (view : D → DiskView) (secret : Secret) (command : Optio
     | inr row ↦ clock_row view secret command before after run.ending row
   ]
 
-  done_written : status ≡ 0 → HasWritten view command before after
-  done_written zero = elim run.row [
-    | inl starved ↦ absurd (let e = starved_status starved in omega (arith, e, zero))
-    | inr row ↦ by run.ending row (sym run.status_is ∙ zero)
-  ]
-    where
-      by : (ending : Result (Unit {0}) Stop) → IsEnding view secret command before after ending → status_of_run ending ≡ 0 → HasWritten view command before after
-      by (Ok done) row e = written view secret command before after done row
-      by (Err (Refused refusal)) row e = absurd ((no_fault refusal).3 e)
-      by (Err ReadFault) row e = absurd (omega (arith, e))
-      by (Err WriteFault) row e = absurd (omega (arith, e))
-      by (Err DiskFault) row e = absurd (omega (arith, e))
-      by (Err PortFault) row e = absurd (omega (arith, e))
-      by (Err OutOfMemory) row e = absurd (omega (arith, e))
+  row_of : (c : Option Command) → command ≡ c → IsStarved before after run.ending ⊎ IsEnding view secret c before after run.ending
+  row_of c is = elim run.row [ inl starved ↦ inl starved | inr row ↦ inr (subst (λ (c : Option Command). IsEnding view secret c before after run.ending) is row) ]
 
   founded : (w : InitWords) → command ≡ Some (init w) → status ≡ 0 → WhereTold (view before.disk) (HoldsNewArchive (view after.disk) w)
-  founded w is zero = elim run.row [
+  founded w is zero = elim (row_of (Some (init w)) is) [
     | inl starved ↦ absurd (let e = starved_status starved in omega (arith, e, zero))
-    | inr row ↦ founded_row view secret w command before after run.ending row is (sym run.status_is ∙ zero)
+    | inr row ↦ init_founded view w before after run.ending row (sym run.status_is ∙ zero)
   ]
 
   drilled : (w : DrillWords) → command ≡ Some (drill w) → (status ≡ 0) ⊎ (status ≡ 6) → WhereTold (view before.disk) (HoldsHistory (view after.disk) (made_history w.records))
-  drilled w is at = elim run.row [
+  drilled w is at = elim (row_of (Some (drill w)) is) [
     | inl starved ↦ absurd (let e = starved_status starved in elim at [ inl zero ↦ omega (arith, e, zero) | inr six ↦ omega (arith, e, six) ])
-    | inr row ↦ drilled_row view secret w command before after run.ending row is (elim at [ inl zero ↦ inl (sym run.status_is ∙ zero) | inr six ↦ inr (sym run.status_is ∙ six) ])
+    | inr row ↦ drill_held view w before after run.ending row (elim at [ inl zero ↦ inl (sym run.status_is ∙ zero) | inr six ↦ inr (sym run.status_is ∙ six) ])
   ]
 
   talked : (w : TalkWords) → command ≡ Some (talk w) → HasEndedTalk view secret w before after status
-  talked w is = record {
-    ending = run.ending;
-    status_is = run.status_is;
-    row = elim run.row [ inl starved ↦ inl starved | inr row ↦ inr (subst (λ (c : Option Command). IsEnding view secret c before after run.ending) is row) ];
-  }
+  talked w is = record { ending = run.ending; status_is = run.status_is; row = row_of (Some (talk w)) is }
 
   served : (w : ServeWords) → command ≡ Some (serve w) → HasEndedServe view secret w before after status
-  served w is = record {
-    ending = run.ending;
-    status_is = run.status_is;
-    row = elim run.row [ inl starved ↦ inl starved | inr row ↦ inr (subst (λ (c : Option Command). IsEnding view secret c before after run.ending) is row) ];
-  }
+  served w is = record { ending = run.ending; status_is = run.status_is; row = row_of (Some (serve w)) is }
 
-  untouched : status ≡ 9 → WhereTold (view before.disk) (KeepsFile (view before.disk) (view after.disk))
-  untouched nine = elim run.row [
-    | inl starved ↦ absurd (let e = starved_status starved in omega (arith, e, nine))
-    | inr row ↦ by run.ending row (sym run.status_is ∙ nine)
-  ]
-    where
-      by : (ending : Result (Unit {0}) Stop) → IsEnding view secret command before after ending → status_of_run ending ≡ 9 → WhereTold (view before.disk) (KeepsFile (view before.disk) (view after.disk))
-      by (Ok done) row e = absurd (omega (arith, e))
-      by (Err stop) row e = nine_row view secret command before after stop row e
+  fetched : (w : FetchWords) → command ≡ Some (fetch w) → HasEndedFetch w before after status
+  fetched w is = record { ending = run.ending; status_is = run.status_is; row = row_of (Some (fetch w)) is }
 
   completes : Told view command before after (λ given. IsComplete view command given before after old new status)
   completes = λ given e unread unwritten undamaged unbroken answer is.
       elim (settles view secret command before after old new status run given e answer is) [
-        | inl (inl five) ↦ absurd (unread (read_rose five))
-        | inl (inr (inl six)) ↦ absurd (unwritten (part_rose view command before after (cut_short six)))
-        | inl (inr (inr (inl seven))) ↦ absurd (undamaged (disk_rose seven))
-        | inl (inr (inr (inr (inl eight)))) ↦ absurd (unbroken (port_rose eight))
-        | inl (inr (inr (inr (inr seventy)))) ↦ inl seventy
-        | inr ends ↦ inr ends
+        | inl (inl five) ↦ absurd (unread (it_says.read five))
+        | inl (inr (inl six)) ↦ absurd (unwritten (part_rose view command before after (it_says.cut six)))
+        | inl (inr (inr (inl seven))) ↦ absurd (undamaged (it_says.disk seven))
+        | inl (inr (inr (inr (inl eight)))) ↦ absurd (unbroken (it_says.port eight))
+        | inl (inr (inr (inr (inr (inl seventeen))))) ↦ inl seventeen
+        | inl (inr (inr (inr (inr (inr seventy))))) ↦ inr (inl seventy)
+        | inr ends ↦ inr (inr ends)
       ]
 
   pub rows : RunRows view secret command before after old new status
   rows = record {
     settled = settles view secret command before after old new status run;
     complete = completes;
-    kept = kept;
+    kept = it_says.kept;
     unused = unused;
     clock = clock;
     ports = ports;
-    written = done_written;
+    written = it_says.written;
     founded = founded;
     drilled = drilled;
     talked = talked;
     served = served;
+    fetched = fetched;
     unknown = unknown;
     refused = refused_comes view secret command before after old new status run;
     no_data = no_data_comes view secret command before after old new status run;
     too_large = too_large_comes view secret command before after old new status run;
-    read_fault = read_rose;
-    write_fault = cut_short;
-    disk_fault = disk_rose;
-    port_fault = port_rose;
+    read_fault = it_says.read;
+    write_fault = it_says.cut;
+    disk_fault = it_says.disk;
+    port_fault = it_says.port;
     no_archive = no_archive_comes view secret command before after old new status run;
-    untouched = untouched;
+    untouched = it_says.untouched;
     too_long = too_long_comes view secret command before after old new status run;
     request_cut = request_cut_comes view secret command before after old new status run;
+    peer = peer_comes view secret command before after old new status run;
+    bad_reply = bad_reply_comes view secret command before after old new status run;
+    unsettled = unsettled_comes view secret command before after old new status run;
+    no_link = it_says.no_link;
+    requests = requests_come view secret command before after old new status run;
   }

@@ -1,7 +1,11 @@
 -- What the words and what they make the program read determine: the body that is written, or why there is none.
-use Rattle.std.specs.Prelude.{◌≡◌, ◌≢◌, ℕ, List, [], Option, Some, None, Result, Ok, Err, ⊤}
-use Rattle.command_words.specs.Commands.{Command, select, init, talk, serve, drill, show}
+use Rattle.std.specs.Prelude.{◌≡◌, ◌≢◌, ◌⊎◌, ℕ, List, [], Option, Some, None, Result, Ok, Err, ⊤}
+use Rattle.command_words.specs.Commands.{Command, select, init, talk, serve, drill, fetch, show}
+use Rattle.centre_fetch.specs.Answers.{IsHeardOut}
+use Rattle.centre_fetch.specs.Words.{IsAsked}
+use Rattle.split_fetch.specs.declared.window.Window.{Window}
 use Rattle.centre.specs.Drills.{IsDrillAnswer}
+use Rattle.centre.specs.Fetches.{IsFetching}
 use Rattle.centre.specs.Given.{Given}
 use Rattle.centre.specs.Selects.{IsSelection}
 use Rattle.centre.specs.Serves.{IsServeAnswer}
@@ -12,9 +16,7 @@ use Rattle.centre.specs.declared.ending.Refusal.TheVariants.{UnknownCommand, Not
 
 -- an archive is made in an empty file, and nothing is written on the sink
 abbrev pub IsInitAnswer : List ℕ → Result (List ℕ) Refusal → Type 0
-IsInitAnswer file (Ok body) = (file ≡ []) × (body ≡ [])
-IsInitAnswer file (Err NotEmpty) = file ≢ []
-IsInitAnswer file (Err _) = ⊥
+IsInitAnswer file answer = ((file ≡ []) × (answer ≡ Ok [])) ⊎ ((file ≢ []) × (answer ≡ Err NotEmpty))
 
 -- What the words and what is read determine, by cases on the command: what the sink gets, or why it gets nothing. What
 -- `talk` writes isn't determined by them alone; a session that is served to its end counts as nothing.
@@ -26,9 +28,12 @@ IsAnswer (Some (init w)) given answer = IsInitAnswer given.file answer
 IsAnswer (Some (talk w)) given answer = IsTalkAnswer given.file given.input answer
 IsAnswer (Some (serve w)) given answer = IsServeAnswer given.file answer
 IsAnswer (Some (drill w)) given answer = IsDrillAnswer w.records given.file answer
+IsAnswer (Some (fetch w)) given answer = IsFetching w given.heard answer
 
--- The file of `talk` and of `serve` opens with a history or has its fault. The other commands read whatever there is.
+-- The file of `talk` and of `serve` opens with a history or has its fault, and where `fetch` has a window to ask for, what it
+-- heard leads to an end. The other commands read whatever there is.
 abbrev pub HasOpening : Option Command → Given → Type 0
 HasOpening (Some (serve w)) given = OpensOrNot given.file
 HasOpening (Some (talk w)) given = OpensOrNot given.file
+HasOpening (Some (fetch w)) given = (window : Window) → IsAsked w window → IsHeardOut w given.heard
 HasOpening _ given = ⊤

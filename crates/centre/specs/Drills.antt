@@ -1,5 +1,5 @@
 -- The command `drill`: what the file determines of it, and its rows of the table.
-use Rattle.std.specs.Prelude.{◌≡◌, ◌≢◌, ℕ, List, [], Result, Ok, Err}
+use Rattle.std.specs.Prelude.{◌≡◌, ◌≢◌, ◌⊎◌, ℕ, List, [], Result, Ok, Err}
 use Rattle.disk_model.specs.View.{DiskView}
 use Rattle.centre_drill.specs.Drill.{DrillRow}
 use Rattle.centre_drill.specs.Figures.{figures_of, figures_text}
@@ -8,6 +8,7 @@ use Rattle.centre_drill.specs.declared.ending.DrillStop.{DrillStop}
 use Rattle.centre_drill.specs.declared.ending.DrillStop.TheVariants as drill
 use Rattle.command_words.specs.Commands.{DrillWords}
 use Rattle.centre_select.specs.Table.{streams}
+use Rattle.centre.specs.Ends.{EndsBy}
 use Rattle.centre.specs.Given.{World}
 use Rattle.centre.specs.declared.ending.Refusal.{Refusal}
 use Rattle.centre.specs.declared.ending.Refusal.TheVariants.{NotEmpty}
@@ -20,9 +21,8 @@ drill_text records = figures_text (figures_of (made_history records))
 
 -- the archive of so many records is made in an empty file, and its figures are told
 abbrev pub IsDrillAnswer : ℕ → List ℕ → Result (List ℕ) Refusal → Type 0
-IsDrillAnswer records file (Ok body) = (file ≡ []) × (body ≡ drill_text records)
-IsDrillAnswer records file (Err NotEmpty) = file ≢ []
-IsDrillAnswer records file (Err _) = ⊥
+IsDrillAnswer records file answer =
+    ((file ≡ []) × (answer ≡ Ok (drill_text records))) ⊎ ((file ≢ []) × (answer ≡ Err NotEmpty))
 
 -- how a drill stops a run
 abbrev pub stop_for_drill : DrillStop → Stop
@@ -38,9 +38,4 @@ pub record IsDrill {D : Type 0} (view : D → DiskView) (w : DrillWords) (before
 
 -- the rows of `drill`
 abbrev pub DrillEnding : {D : Type 0} → (D → DiskView) → DrillWords → World D → World D → Result (Unit {0}) Stop → Type 0
-DrillEnding view w before after (Ok done) = IsDrill view w before after (Ok done)
-DrillEnding view w before after (Err WriteFault) = IsDrill view w before after (Err drill.WriteFault)
-DrillEnding view w before after (Err DiskFault) = IsDrill view w before after (Err drill.DiskFault)
-DrillEnding view w before after (Err (Refused NotEmpty)) = (length : ℕ) × IsDrill view w before after (Err (drill.NotEmpty length))
-DrillEnding view w before after (Err OutOfMemory) = IsDrill view w before after (Err drill.OutOfMemory)
-DrillEnding view w before after (Err _) = ⊥
+DrillEnding view w before after ending = EndsBy stop_for_drill (IsDrill view w before after) ending

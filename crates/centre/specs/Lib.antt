@@ -1,5 +1,7 @@
 pub mod Answers
 pub mod Drills
+pub mod Ends
+pub mod Fetches
 pub mod Given
 pub mod Limits
 pub mod Outside

@@ -1,6 +1,6 @@
 -- Which objects of the outside a command needs.
 use Rattle.std.specs.Prelude.{◌≡◌, Bool, List, ℕ, Option, None, Some, true, false}
-use Rattle.command_words.specs.Commands.{ServeWords, Command, init, talk, serve, drill}
+use Rattle.command_words.specs.Commands.{ServeWords, FetchWords, Command, init, talk, serve, drill, fetch}
 use Rattle.centre.specs.declared.objects.Outside.{Outside}
 
 -- no address, and one worker without an end
@@ -27,11 +27,22 @@ pub record NamesService (outside : Outside) (w : ServeWords) : Type 0 where
   pub workers : outside.workers ≡ w.workers
   pub sessions : outside.sessions ≡ w.sessions
 
--- `init` and `drill` make the file that they are given, `talk` and `serve` open the one that they are given; the other
--- commands use no archive
+-- no file, one worker, and the address of a data centre, which its port dials
+pub record NamesPeer (outside : Outside) (w : FetchWords) : Type 0 where
+  pub journal_is : outside.journal ≡ None
+  pub may_make_is : outside.may_make ≡ false
+  pub second : outside.second ≡ None
+  pub address : outside.address ≡ Some w.peer
+  pub dials : outside.dials ≡ true
+  pub workers : outside.workers ≡ 1
+  pub sessions : outside.sessions ≡ None
+
+-- `init` and `drill` make the file that they are given, `talk` and `serve` open the one that they are given; `fetch` dials;
+-- the other commands use no archive
 abbrev pub IsOutside : Option Command → Outside → Type 0
 IsOutside (Some (init w)) outside = NamesJournal outside (Some w.journal) true
 IsOutside (Some (drill w)) outside = NamesJournal outside (Some w.journal) true
 IsOutside (Some (talk w)) outside = NamesJournal outside (Some w.journal) false
 IsOutside (Some (serve w)) outside = NamesService outside w
+IsOutside (Some (fetch w)) outside = NamesPeer outside w
 IsOutside _ outside = NamesJournal outside None false

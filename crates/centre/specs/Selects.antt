@@ -1,5 +1,5 @@
 -- The command `select`: what words and input determine of it, and its rows of the table.
-use Rattle.std.specs.Prelude.{ℕ, List, Result, Ok, Err}
+use Rattle.std.specs.Prelude.{ℕ, List, Result}
 use Rattle.centre_select.specs.Answers.{IsSelectAnswer}
 use Rattle.centre_select.specs.Table.{Streams, SelectRow}
 use Rattle.centre_select.specs.declared.ending.SelectRefusal.{SelectRefusal}
@@ -7,6 +7,7 @@ use Rattle.centre_select.specs.declared.ending.SelectRefusal.TheVariants as refu
 use Rattle.centre_select.specs.declared.ending.SelectStop.{SelectStop}
 use Rattle.centre_select.specs.declared.ending.SelectStop.TheVariants as stop
 use Rattle.command_words.specs.Commands.{SelectWords}
+use Rattle.centre.specs.Ends.{AnswersBy, EndsBy}
 use Rattle.centre.specs.declared.ending.Refusal.{Refusal}
 use Rattle.centre.specs.declared.ending.Refusal.TheVariants.{Value, Order, Record, NoData, TooLarge, InputTooLong}
 use Rattle.centre.specs.declared.ending.Stop.{Stop}
@@ -30,25 +31,8 @@ stop_for_select stop.OutOfMemory = OutOfMemory
 
 -- the words of `select` and the input give this body, or are refused
 abbrev pub IsSelection : SelectWords → List ℕ → Result (List ℕ) Refusal → Type 0
-IsSelection w input (Ok body) = IsSelectAnswer w input (Ok body)
-IsSelection w input (Err (Value word)) = IsSelectAnswer w input (Err (refusal.Value word))
-IsSelection w input (Err Order) = IsSelectAnswer w input (Err refusal.Order)
-IsSelection w input (Err (Record at fault)) = IsSelectAnswer w input (Err (refusal.Record at fault))
-IsSelection w input (Err NoData) = IsSelectAnswer w input (Err refusal.NoData)
-IsSelection w input (Err (TooLarge bytes limit)) = IsSelectAnswer w input (Err (refusal.TooLarge bytes limit))
-IsSelection w input (Err InputTooLong) = IsSelectAnswer w input (Err refusal.InputTooLong)
-IsSelection w input (Err _) = ⊥
+IsSelection w input answer = AnswersBy refusal_for_select (IsSelectAnswer w input) answer
 
 -- the rows of `select`
 abbrev pub SelectEnding : SelectWords → Streams → Streams → Result (Unit {0}) Stop → Type 0
-SelectEnding w before after (Ok done) = SelectRow w before after (Ok done)
-SelectEnding w before after (Err (Refused (Value word))) = SelectRow w before after (Err (stop.Refused (refusal.Value word)))
-SelectEnding w before after (Err (Refused Order)) = SelectRow w before after (Err (stop.Refused refusal.Order))
-SelectEnding w before after (Err (Refused (Record at fault))) = SelectRow w before after (Err (stop.Refused (refusal.Record at fault)))
-SelectEnding w before after (Err (Refused NoData)) = SelectRow w before after (Err (stop.Refused refusal.NoData))
-SelectEnding w before after (Err (Refused (TooLarge bytes limit))) = SelectRow w before after (Err (stop.Refused (refusal.TooLarge bytes limit)))
-SelectEnding w before after (Err (Refused InputTooLong)) = SelectRow w before after (Err (stop.Refused refusal.InputTooLong))
-SelectEnding w before after (Err ReadFault) = SelectRow w before after (Err stop.ReadFault)
-SelectEnding w before after (Err WriteFault) = SelectRow w before after (Err stop.WriteFault)
-SelectEnding w before after (Err OutOfMemory) = SelectRow w before after (Err stop.OutOfMemory)
-SelectEnding w before after (Err _) = ⊥
+SelectEnding w before after ending = EndsBy stop_for_select (SelectRow w before after) ending

@@ -11,6 +11,7 @@ use Rattle.centre_serve.specs.Service.{site, ServeRow}
 use Rattle.centre_serve.specs.declared.ending.ServeStop.{ServeStop}
 use Rattle.centre_serve.specs.declared.ending.ServeStop.TheVariants as serve
 use Rattle.command_words.specs.Commands.{ServeWords}
+use Rattle.centre.specs.Ends.{EndsBy}
 use Rattle.centre.specs.Given.{World}
 use Rattle.centre.specs.Limits.{limits_at}
 use Rattle.centre.specs.declared.ending.Refusal.{Refusal}
@@ -18,13 +19,15 @@ use Rattle.centre.specs.declared.ending.Refusal.TheVariants.{NotAJournal, Damage
 use Rattle.centre.specs.declared.ending.Stop.{Stop}
 use Rattle.centre.specs.declared.ending.Stop.TheVariants.{Refused, DiskFault, PortFault, OutOfMemory}
 
--- The file is an archive, and is served until every port is closed, and nothing is written on the sink; or it is none, by its
--- fault.
-abbrev pub IsServeAnswer : List ℕ → Result (List ℕ) Refusal → Type 0
-IsServeAnswer file (Ok body) = (body ≡ []) × ((history : List Entry) × OpensWith file history)
-IsServeAnswer file (Err NotAJournal) = IsStartFault file start.NotAJournal
-IsServeAnswer file (Err (Damaged at)) = IsStartFault file (start.Damaged at)
-IsServeAnswer file (Err _) = ⊥
+-- a file that is no archive is refused so, by its fault
+pub data RefusesFile (file : List ℕ) (answer : Result (List ℕ) Refusal) : Type 0 where
+  no_journal : IsStartFault file start.NotAJournal → answer ≡ Err NotAJournal → RefusesFile file answer
+  damaged : (at : ℕ) → IsStartFault file (start.Damaged at) → answer ≡ Err (Damaged at) → RefusesFile file answer
+
+-- the file is an archive, and is served until every port is closed, and nothing is written on the sink; or it is none
+pub data IsServeAnswer (file : List ℕ) (answer : Result (List ℕ) Refusal) : Type 0 where
+  opened : (history : List Entry) → OpensWith file history → answer ≡ Ok [] → IsServeAnswer file answer
+  refuses : RefusesFile file answer → IsServeAnswer file answer
 
 -- how a service stops a run
 abbrev pub stop_for_serve : ServeStop → Stop
@@ -44,10 +47,4 @@ pub record IsServe {D : Type 0} (view : D → DiskView) (secret : Secret) (w : S
 
 -- the rows of `serve`
 abbrev pub ServeEnding : {D : Type 0} → (D → DiskView) → Secret → ServeWords → World D → World D → Result (Unit {0}) Stop → Type 0
-ServeEnding view secret w before after (Ok done) = IsServe view secret w before after (Ok done)
-ServeEnding view secret w before after (Err DiskFault) = IsServe view secret w before after (Err serve.DiskFault)
-ServeEnding view secret w before after (Err PortFault) = IsServe view secret w before after (Err serve.PortFault)
-ServeEnding view secret w before after (Err OutOfMemory) = IsServe view secret w before after (Err serve.OutOfMemory)
-ServeEnding view secret w before after (Err (Refused NotAJournal)) = IsServe view secret w before after (Err serve.NotAJournal)
-ServeEnding view secret w before after (Err (Refused (Damaged at))) = IsServe view secret w before after (Err (serve.Damaged at))
-ServeEnding view secret w before after (Err _) = ⊥
+ServeEnding view secret w before after ending = EndsBy stop_for_serve (IsServe view secret w before after) ending

@@ -8,9 +8,9 @@ use Rattle.archive_log.specs.Histories.{Recovers, IsHistoryOf}
 use Rattle.exact_time.specs.Causes.{Rose}
 use Rattle.exact_time.specs.declared.moment.Moment.{Moment}
 use Rattle.centre.specs.declared.ending.Refusal.{Refusal}
-use Rattle.centre.specs.declared.ending.Refusal.TheVariants.{NoData, TooLarge, NotEmpty, InputTooLong, NotAJournal, Damaged, RequestCut}
+use Rattle.centre.specs.declared.ending.Refusal.TheVariants.{NoData, TooLarge, NotEmpty, InputTooLong, NotAJournal, Damaged, RequestCut, Peer, BadReply, Lost, Moved, Requests}
 use Rattle.centre.specs.Answers.{IsAnswer}
-use Rattle.command_words.specs.Commands.{InitWords, TalkWords, ServeWords, DrillWords, Command, init, talk, serve, drill}
+use Rattle.command_words.specs.Commands.{InitWords, TalkWords, ServeWords, DrillWords, FetchWords, Command, init, talk, serve, drill, fetch}
 use Rattle.centre_drill.specs.Drill.{HoldsHistory}
 use Rattle.centre_drill.specs.History.{made_history}
 use Rattle.centre.specs.Given.{World, Given, HadGiven, Told}
@@ -20,15 +20,16 @@ use Rattle.streams.specs.View.{StreamView}
 use Rattle.centre_select.specs.Status.{Tells}
 use Rattle.centre.specs.Table.{IsStarved}
 use Rattle.centre_serve.specs.Whole.{OneRose}
-use Rattle.link_ports.specs.Ports.{PortView}
+use Rattle.link_ports.specs.Ports.{PortView, IsSpent}
+use Rattle.centre.specs.Fetches.{FetchEnding}
 use Rattle.centre.specs.Serves.{ServeEnding}
 use Rattle.centre.specs.Talks.{TalkEnding}
 use Rattle.centre.specs.declared.ending.Stop.{Stop}
 
--- the statuses that these don't determine: a fault of the source, the sink, the disk or a port, want of
+-- the statuses that these don't determine: a fault of the source, the sink, the disk or a port, a port without links, want of
 -- memory
 abbrev pub IsFree : ℕ → Type 0
-IsFree status = (status ≡ 5) ⊎ (status ≡ 6) ⊎ (status ≡ 7) ⊎ (status ≡ 8) ⊎ (status ≡ 70)
+IsFree status = (status ≡ 5) ⊎ (status ≡ 6) ⊎ (status ≡ 7) ⊎ (status ≡ 8) ⊎ (status ≡ 17) ⊎ (status ≡ 70)
 
 -- The status comes exactly where the cause holds: only there, and always there, unless the run stopped
 -- at a fault or for want of memory.
@@ -56,18 +57,19 @@ abbrev pub IsSettled : Option Command → Given → StreamView → StreamView �
 IsSettled command given old new status =
     (answer : Result (List ℕ) Refusal) → IsAnswer command given answer → IsFree status ⊎ EndsAs answer old new status
 
--- Where neither the source, the sink, the disk nor a port failed, the run ended as the answer says, unless memory ran out.
+-- Where neither the source, the sink, the disk nor a port failed, the run ended as the answer says, unless a port had no more
+-- links or memory ran out.
 abbrev pub IsComplete : {D : Type 0} → (D → DiskView) → Option Command → Given → World D → World D → StreamView → StreamView → ℕ → Type 0
 IsComplete view command given before after old new status =
     ¬ (Rose before.streams.source.faults after.streams.source.faults) → ¬ (Rose before.streams.sink.faults after.streams.sink.faults)
     → ¬ (Rose (view before.disk).faults (view after.disk).faults) → ¬ (OneRose before.ports after.ports)
-    → (answer : Result (List ℕ) Refusal) → IsAnswer command given answer → (status ≡ 70) ⊎ EndsAs answer old new status
+    → (answer : Result (List ℕ) Refusal) → IsAnswer command given answer → (status ≡ 17) ⊎ (status ≡ 70) ⊎ EndsAs answer old new status
 
 -- the sink got what the command answers to what it read
 pub record GotAnswer {D : Type 0} (view : D → DiskView) (command : Option Command) (before after : World D) : Type 0 where
   pub given : Given
   pub body : List ℕ
-  pub had : HadGiven view command before given
+  pub had : HadGiven view command before after given
   pub answer : IsAnswer command given (Ok body)
   pub output : Grew before.streams.sink.written after.streams.sink.written body
 
@@ -99,7 +101,7 @@ IsNoArchive command given =
 pub record GotPart {D : Type 0} (view : D → DiskView) (command : Option Command) (before after : World D) : Type 0 where
   pub given : Given
   pub body : List ℕ
-  pub had : HadGiven view command before given
+  pub had : HadGiven view command before after given
   pub answer : IsAnswer command given (Ok body)
   pub rose : Rose before.streams.sink.faults after.streams.sink.faults
   pub output : WritesPart before.streams.sink.written after.streams.sink.written body
@@ -132,10 +134,21 @@ abbrev pub AsksNoClock : Option Command → Option (List Moment) → Option (Lis
 AsksNoClock (Some (talk w)) old new = ⊤
 AsksNoClock _ old new = new ≡ old
 
--- with every status but 70 no command but `serve` asks a port, and all ports come back
+-- all ports but the first are as before
+abbrev pub KeepsOthers : List PortView → List PortView → Type 0
+KeepsOthers (old ∷ others) (new ∷ more) = more ≡ others
+KeepsOthers _ _ = ⊥
+
+-- with every status but 70 no command but `serve` asks a port, or `fetch` the first one, and all ports come back
 abbrev pub KeepsPorts : Option Command → List PortView → List PortView → Type 0
 KeepsPorts (Some (serve w)) old new = ⊤
+KeepsPorts (Some (fetch w)) old new = KeepsOthers old new
 KeepsPorts _ old new = new ≡ old
+
+-- the first port has no more links
+abbrev pub HasNoLink : List PortView → Type 0
+HasNoLink [] = ⊥
+HasNoLink (port ∷ others) = IsSpent port.left
 
 -- with every status but 0 and 6 the sink is as before, unless the command is `talk`
 abbrev pub KeepsSink : Option Command → StreamView → StreamView → Type 0
@@ -159,10 +172,24 @@ pub record HasEndedServe {D : Type 0} (view : D → DiskView) (secret : Secret) 
   pub status_is : status ≡ status_of_run ending
   pub row : IsStarved before after ending ⊎ ServeEnding view secret w before after ending
 
+-- `fetch` ended so: a window was asked for over the first port, or none for its cause
+pub record HasEndedFetch {D : Type 0} (w : FetchWords) (before after : World D) (status : ℕ) : Type 0 where
+  pub ending : Result (Unit {0}) Stop
+  pub status_is : status ≡ status_of_run ending
+  pub row : IsStarved before after ending ⊎ FetchEnding w before after ending
+
+-- the data centre answered a status that is no answer
+abbrev pub IsPeerRefusal : Option Command → Given → Type 0
+IsPeerRefusal command given = (status : ℕ) × IsAnswer command given (Err (Peer status))
+
+-- the last round ended at a lost connection, or its answers had different fronts
+abbrev pub IsUnsettled : Option Command → Given → Type 0
+IsUnsettled command given = IsAnswer command given (Err Lost) ⊎ ((a : ℕ) × (b : ℕ) × IsAnswer command given (Err (Moved a b)))
+
 -- What a reader looks for in a run, row by row.
 pub record RunRows {D : Type 0} (view : D → DiskView) (secret : Secret) (command : Option Command) (before after : World D) (old new : StreamView) (status : ℕ) : Type 0 where
   -- what the words and what is read determine is what comes, with its text, unless the source, the sink, the disk or a port
-  -- failed or memory ran out; and where none of them failed, unless memory ran out
+  -- failed, a port had no more links or memory ran out; and where none of them failed, unless one of the last two
   pub settled : Told view command before after (λ given. IsSettled command given old new status)
   pub complete : Told view command before after (λ given. IsComplete view command given before after old new status)
   -- with every status but 0 and 6 the sink is as before, unless the command is `talk`; what a command doesn't use stays as
@@ -180,6 +207,8 @@ pub record RunRows {D : Type 0} (view : D → DiskView) (secret : Secret) (comma
   pub talked : (w : TalkWords) → command ≡ Some (talk w) → HasEndedTalk view secret w before after status
   -- `serve`, with whatever status
   pub served : (w : ServeWords) → command ≡ Some (serve w) → HasEndedServe view secret w before after status
+  -- `fetch`, with whatever status
+  pub fetched : (w : FetchWords) → command ≡ Some (fetch w) → HasEndedFetch w before after status
   -- each other status, and its cause
   pub unknown : IsUnknown command status
   pub refused : Told view command before after (λ given. ComesWhere status 2 (IsRefused command given))
@@ -193,3 +222,8 @@ pub record RunRows {D : Type 0} (view : D → DiskView) (secret : Secret) (comma
   pub untouched : status ≡ 9 → WhereTold (view before.disk) (KeepsFile (view before.disk) (view after.disk))
   pub too_long : Told view command before after (λ given. ComesWhere status 10 (IsAnswer command given (Err InputTooLong)))
   pub request_cut : Told view command before after (λ given. ComesWhere status 11 (IsAnswer command given (Err RequestCut)))
+  pub peer : Told view command before after (λ given. ComesWhere status 13 (IsPeerRefusal command given))
+  pub bad_reply : Told view command before after (λ given. ComesWhere status 14 (IsAnswer command given (Err BadReply)))
+  pub unsettled : Told view command before after (λ given. ComesWhere status 15 (IsUnsettled command given))
+  pub no_link : status ≡ 17 → HasNoLink after.ports
+  pub requests : Told view command before after (λ given. ComesWhere status 18 (IsAnswer command given (Err Requests)))

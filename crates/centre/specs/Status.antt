@@ -8,9 +8,9 @@ use Rattle.centre_desk.specs.declared.fault.Fault.TheVariants as fault
 use Rattle.query_parameters.specs.declared.fault.QueryFault.TheVariants as query
 use Rattle.centre_select.specs.Status.{name_of_word}
 use Rattle.centre.specs.declared.ending.Refusal.{Refusal}
-use Rattle.centre.specs.declared.ending.Refusal.TheVariants.{UnknownCommand, Value, Order, Record, NoData, TooLarge, InputTooLong, NotEmpty, NotAJournal, Damaged, RequestCut}
+use Rattle.centre.specs.declared.ending.Refusal.TheVariants.{UnknownCommand, Value, Order, Record, NoData, TooLarge, InputTooLong, NotEmpty, NotAJournal, Damaged, RequestCut, Peer, BadReply, Lost, Moved, Requests}
 use Rattle.centre.specs.declared.ending.Stop.{Stop}
-use Rattle.centre.specs.declared.ending.Stop.TheVariants.{Refused, ReadFault, WriteFault, DiskFault, PortFault, OutOfMemory}
+use Rattle.centre.specs.declared.ending.Stop.TheVariants.{Refused, ReadFault, WriteFault, DiskFault, PortFault, NoLink, OutOfMemory}
 
 abbrev pub status_of_refusal : Refusal → ℕ
 status_of_refusal UnknownCommand = 1
@@ -24,6 +24,11 @@ status_of_refusal NotAJournal = 9
 status_of_refusal (Damaged at) = 9
 status_of_refusal InputTooLong = 10
 status_of_refusal RequestCut = 11
+status_of_refusal (Peer status) = 13
+status_of_refusal BadReply = 14
+status_of_refusal Lost = 15
+status_of_refusal (Moved a b) = 15
+status_of_refusal Requests = 18
 
 abbrev pub status_of : Stop → ℕ
 status_of (Refused refusal) = status_of_refusal refusal
@@ -31,6 +36,7 @@ status_of ReadFault = 5
 status_of WriteFault = 6
 status_of DiskFault = 7
 status_of PortFault = 8
+status_of NoLink = 17
 status_of OutOfMemory = 70
 
 abbrev pub status_of_run : Result (Unit {0}) Stop → ℕ
@@ -53,6 +59,11 @@ text_of_refusal NotAJournal = codes "centre: not a journal\n"
 text_of_refusal (Damaged at) = codes "centre: journal damaged at " ++ decimal at ++ codes "\n"
 text_of_refusal InputTooLong = codes "centre: input too long\n"
 text_of_refusal RequestCut = codes "centre: request cut\n"
+text_of_refusal (Peer status) = codes "centre: peer answered " ++ decimal status ++ codes "\n"
+text_of_refusal BadReply = codes "centre: bad reply\n"
+text_of_refusal Lost = codes "centre: connection lost\n"
+text_of_refusal (Moved a b) = codes "centre: front moved from " ++ decimal a ++ codes " to " ++ decimal b ++ codes "\n"
+text_of_refusal Requests = codes "centre: too many requests\n"
 
 abbrev pub error_text_of : Stop → List ℕ
 error_text_of (Refused refusal) = text_of_refusal refusal
@@ -60,6 +71,7 @@ error_text_of ReadFault = codes "centre: read fault\n"
 error_text_of WriteFault = codes "centre: write fault\n"
 error_text_of DiskFault = codes "centre: disk fault\n"
 error_text_of PortFault = codes "centre: port fault\n"
+error_text_of NoLink = codes "centre: no more links\n"
 error_text_of OutOfMemory = codes "centre: out of memory\n"
 
 abbrev pub text_of_run : Result (Unit {0}) Stop → List ℕ

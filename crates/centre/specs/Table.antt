@@ -2,12 +2,14 @@
 use Rattle.std.specs.Prelude.{◌≡◌, ◌⊎◌, ℕ, List, [], Option, Some, None, Result, Ok, Err, IsErrOf}
 use Rattle.centre_select.specs.Status.{Tells}
 use Rattle.centre_select.specs.Table.{Streams, IsShown, IsShowStopped}
-use Rattle.centre.specs.declared.ending.Refusal.TheVariants.{UnknownCommand, Record, TooLarge, NotEmpty, Damaged}
+use Rattle.centre.specs.declared.ending.Refusal.TheVariants.{UnknownCommand, Record, TooLarge, NotEmpty, Damaged, Peer, Moved}
 use Rattle.centre.specs.declared.ending.Stop.{Stop}
 use Rattle.centre.specs.declared.ending.Stop.TheVariants.{Refused, WriteFault, DiskFault, OutOfMemory}
 use Rattle.http_digest.specs.declared.secret.Secret.{Secret}
-use Rattle.command_words.specs.Commands.{InitWords, Command, select, init, talk, serve, drill, show}
+use Rattle.command_words.specs.Commands.{InitWords, Command, select, init, talk, serve, drill, fetch, show}
 use Rattle.centre.specs.Drills.{DrillEnding}
+use Rattle.centre.specs.Ends.{EndsBy}
+use Rattle.centre.specs.Fetches.{FetchEnding}
 use Rattle.centre.specs.Given.{World}
 use Rattle.centre.specs.Shown.{text_shown}
 use Rattle.centre.specs.Status.{status_of_run, text_of_run}
@@ -23,9 +25,8 @@ use Rattle.centre.specs.Talks.{TalkEnding}
 
 -- the rows of a command that shows a text
 abbrev pub ShowRow : List ℕ → Streams → Streams → Result (Unit {0}) Stop → Type 0
-ShowRow text before after (Ok done) = IsShown text before after
-ShowRow text before after (Err WriteFault) = IsShowStopped text before after
-ShowRow text before after (Err _) = ⊥
+ShowRow text before after ending =
+    ((ending ≡ Ok tt) × IsShown text before after) ⊎ ((ending ≡ Err WriteFault) × IsShowStopped text before after)
 
 -- What `init` does, with this outcome: nothing but the disk is called, and it founds the archive of this operator. Where memory runs out, the disk isn't called either.
 pub record IsInit {D : Type 0} (view : D → DiskView) (w : InitWords) (before after : World D) (outcome : Result (Unit {0}) FoundFault) : Type 0 where
@@ -40,17 +41,12 @@ stop_for_founding (found.NotEmpty len) = Refused NotEmpty
 stop_for_founding found.OutOfMemory = OutOfMemory
 
 -- the rows of `init`
-abbrev pub InitRow : {D : Type 0} → (D → DiskView) → InitWords → World D → World D → Result (Unit {0}) Stop → Type 0
-InitRow view w before after (Ok done) = IsInit view w before after (Ok done)
-InitRow view w before after (Err (Refused NotEmpty)) = (len : ℕ) × IsInit view w before after (Err (found.NotEmpty len))
-InitRow view w before after (Err DiskFault) = IsInit view w before after (Err found.DiskFault)
-InitRow view w before after (Err OutOfMemory) = IsInit view w before after (Err found.OutOfMemory)
-InitRow view w before after (Err _) = ⊥
+abbrev pub InitEnding : {D : Type 0} → (D → DiskView) → InitWords → World D → World D → Result (Unit {0}) Stop → Type 0
+InitEnding view w before after ending = EndsBy stop_for_founding (IsInit view w before after) ending
 
 -- the row of words that are no command: nothing is read, and nothing is written
 abbrev pub UnknownRow : {D : Type 0} → World D → World D → Result (Unit {0}) Stop → Type 0
-UnknownRow before after (Err (Refused UnknownCommand)) = after ≡ before
-UnknownRow before after _ = ⊥
+UnknownRow before after ending = (ending ≡ Err (Refused UnknownCommand)) × (after ≡ before)
 
 -- The table, by cases on the command: how a run ends, why, and what it leaves. What a command doesn't use it leaves as it
 -- was.
@@ -60,16 +56,19 @@ IsEnding view secret (Some (show shown)) before after ending =
     ShowRow (text_shown shown) before.streams after.streams ending × (after ≡ record before { streams = after.streams })
 IsEnding view secret (Some (select w)) before after ending =
     SelectEnding w before.streams after.streams ending × (after ≡ record before { streams = after.streams })
-IsEnding view secret (Some (init w)) before after ending = InitRow view w before after ending
+IsEnding view secret (Some (init w)) before after ending = InitEnding view w before after ending
 IsEnding view secret (Some (talk w)) before after ending = TalkEnding view secret w before after ending
 IsEnding view secret (Some (serve w)) before after ending = ServeEnding view secret w before after ending
 IsEnding view secret (Some (drill w)) before after ending = DrillEnding view w before after ending
+IsEnding view secret (Some (fetch w)) before after ending = FetchEnding w before after ending
 
 -- What a stop is told as: itself, or want of memory where a text with numbers can't be made.
 abbrev pub ToldFor : Stop → Stop → Type 0
 ToldFor (Refused (Record at fault)) told = (told ≡ Refused (Record at fault)) ⊎ (told ≡ OutOfMemory)
 ToldFor (Refused (TooLarge bytes limit)) told = (told ≡ Refused (TooLarge bytes limit)) ⊎ (told ≡ OutOfMemory)
 ToldFor (Refused (Damaged at)) told = (told ≡ Refused (Damaged at)) ⊎ (told ≡ OutOfMemory)
+ToldFor (Refused (Peer status)) told = (told ≡ Refused (Peer status)) ⊎ (told ≡ OutOfMemory)
+ToldFor (Refused (Moved a b)) told = (told ≡ Refused (Moved a b)) ⊎ (told ≡ OutOfMemory)
 ToldFor stop told = told ≡ stop
 
 -- Memory ran out before the words were read: nothing was used. Where there was no room for them, the ports don't come back.

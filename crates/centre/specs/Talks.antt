@@ -13,8 +13,10 @@ use Rattle.centre_talk.specs.Talk.{TalkRow}
 use Rattle.centre_talk.specs.declared.ending.TalkStop.{TalkStop}
 use Rattle.centre_talk.specs.declared.ending.TalkStop.TheVariants as talk
 use Rattle.command_words.specs.Commands.{TalkWords}
+use Rattle.centre.specs.Ends.{EndsBy}
 use Rattle.centre.specs.Given.{World, place_at}
 use Rattle.centre.specs.Limits.{limits_at}
+use Rattle.centre.specs.Serves.{RefusesFile}
 use Rattle.centre.specs.declared.ending.Refusal.{Refusal}
 use Rattle.centre.specs.declared.ending.Refusal.TheVariants.{RequestCut, NotAJournal, Damaged}
 use Rattle.centre.specs.declared.ending.Stop.{Stop}
@@ -37,13 +39,11 @@ abbrev pub OpensOrNot : List ℕ → Type 0
 OpensOrNot file = ((history : List Entry) × OpensWith file history) ⊎ ((fault : StartFault) × IsStartFault file fault)
 
 -- What the file and what was read of the input determine: the session is served to its end, or its last request is cut; or
--- the file is no archive, by its fault. What is written depends on the moments, and is said by the session.
-abbrev pub IsTalkAnswer : List ℕ → List ℕ → Result (List ℕ) Refusal → Type 0
-IsTalkAnswer file input (Ok body) = (body ≡ []) × (IsServed file input closing ⊎ IsServed file input over)
-IsTalkAnswer file input (Err RequestCut) = IsServed file input cut
-IsTalkAnswer file input (Err NotAJournal) = IsStartFault file start.NotAJournal
-IsTalkAnswer file input (Err (Damaged at)) = IsStartFault file (start.Damaged at)
-IsTalkAnswer file input (Err _) = ⊥
+-- the file is no archive. What is written depends on the moments, and is said by the session.
+pub data IsTalkAnswer (file input : List ℕ) (answer : Result (List ℕ) Refusal) : Type 0 where
+  served : IsServed file input closing ⊎ IsServed file input over → answer ≡ Ok [] → IsTalkAnswer file input answer
+  was_cut : IsServed file input cut → answer ≡ Err RequestCut → IsTalkAnswer file input answer
+  refuses : RefusesFile file answer → IsTalkAnswer file input answer
 
 -- how a session over streams stops a run
 abbrev pub stop_for_talk : TalkStop → Stop
@@ -65,12 +65,4 @@ pub record IsTalk {D : Type 0} (view : D → DiskView) (secret : Secret) (w : Ta
 
 -- the rows of `talk`
 abbrev pub TalkEnding : {D : Type 0} → (D → DiskView) → Secret → TalkWords → World D → World D → Result (Unit {0}) Stop → Type 0
-TalkEnding view secret w before after (Ok done) = IsTalk view secret w before after (Ok done)
-TalkEnding view secret w before after (Err ReadFault) = IsTalk view secret w before after (Err talk.ReadFault)
-TalkEnding view secret w before after (Err WriteFault) = IsTalk view secret w before after (Err talk.WriteFault)
-TalkEnding view secret w before after (Err DiskFault) = IsTalk view secret w before after (Err talk.DiskFault)
-TalkEnding view secret w before after (Err OutOfMemory) = IsTalk view secret w before after (Err talk.OutOfMemory)
-TalkEnding view secret w before after (Err (Refused RequestCut)) = IsTalk view secret w before after (Err talk.RequestCut)
-TalkEnding view secret w before after (Err (Refused NotAJournal)) = IsTalk view secret w before after (Err talk.NotAJournal)
-TalkEnding view secret w before after (Err (Refused (Damaged at))) = IsTalk view secret w before after (Err (talk.Damaged at))
-TalkEnding view secret w before after (Err _) = ⊥
+TalkEnding view secret w before after ending = EndsBy stop_for_talk (IsTalk view secret w before after) ending

@@ -28,6 +28,16 @@ pub enum Refusal {
     InputTooLong,
     /// The input ended inside a request.
     RequestCut,
+    /// The data centre answered this status, which is no answer for a window.
+    Peer(u16),
+    /// The data centre gave no reply, or one that can't be used.
+    BadReply,
+    /// The last round ended at a lost connection.
+    Lost,
+    /// The last round's answers were over archives of these lengths, two neighbours.
+    Moved(u64, u64),
+    /// A round had 10,000 requests, and a window was left.
+    Requests,
 }
 
 /// Why a run stopped before it was done.
@@ -42,6 +52,8 @@ pub enum Stop {
     DiskFault,
     /// The port of a worker failed.
     PortFault,
+    /// The port gave no further link.
+    NoLink,
     OutOfMemory,
 }
 
@@ -61,6 +73,10 @@ impl Refusal {
             Refusal::NotEmpty | Refusal::NotAJournal | Refusal::Damaged(_) => 9,
             Refusal::InputTooLong => 10,
             Refusal::RequestCut => 11,
+            Refusal::Peer(_) => 13,
+            Refusal::BadReply => 14,
+            Refusal::Lost | Refusal::Moved(..) => 15,
+            Refusal::Requests => 18,
         }
     }
 }
@@ -79,6 +95,7 @@ impl Stop {
             Stop::WriteFault => 6,
             Stop::DiskFault => 7,
             Stop::PortFault => 8,
+            Stop::NoLink => 17,
             Stop::OutOfMemory => 70,
         }
     }

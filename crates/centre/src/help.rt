@@ -14,6 +14,7 @@ fn help_of(command: CommandName) -> &'static str
         CommandName::Talk => TALK_HELP,
         CommandName::Serve => SERVE_HELP,
         CommandName::Drill => DRILL_HELP,
+        CommandName::Fetch => FETCH_HELP,
     }
 }
 
@@ -29,7 +30,7 @@ pub(crate) fn text_shown(shown: Shown) -> &'static str
 }
 
 /// What `--version` shows.
-pub const VERSION: &str = "centre 0.1.0\n";
+pub const VERSION: &str = "velkatsa 0.1.0\n";
 
 /// What `--help` shows: the commands, and the statuses.
 pub const HELP: &str = "\
@@ -46,6 +47,8 @@ Usage:
   velkatsa serve --help
   velkatsa drill N --journal F
   velkatsa drill --help
+  velkatsa fetch --peer A:P NET STA LOC CHA START END > RECORDS
+  velkatsa fetch --help
   velkatsa --help
   velkatsa --version
 
@@ -66,6 +69,10 @@ if wanted. `velkatsa serve --help` says how, with an example.
 drill makes an archive of made records in a file, by which a machine can be
 measured, and prints five figures of it. `velkatsa drill --help` says more.
 
+fetch asks another data centre for the records of a window, in as many parts as
+it takes, and writes them, whole and each once, to standard output. `velkatsa
+fetch --help` says how, with an example.
+
 An option is --NAME VALUE or --NAME=VALUE, in any place behind the command, and
 once at most. A value that begins with a hyphen is written --NAME=VALUE.
 
@@ -82,11 +89,19 @@ Exit status, and the text on standard error:
    5  centre: read fault
    6  centre: write fault
    7  centre: disk fault
-   8  centre: port fault
+   8  centre: port fault: of serve, a worker couldn't listen; of fetch, nobody
+      listens at the address
    9  centre: journal is not empty; of talk and serve: centre: not a journal,
       centre: journal damaged at 16
   10  centre: input too long
   11  centre: request cut: the input of talk ended inside a request
+  13  centre: peer answered 404
+  14  centre: bad reply: not HTTP, no X-Archive-Front, or bytes that aren't
+      records
+  15  centre: connection lost, centre: front moved from 4 to 5: so the last of
+      eight rounds ended
+  17  centre: no more links
+  18  centre: too many requests: 10000 in one round
   70  centre: out of memory
   71  centre: no random bytes
 ";
@@ -237,4 +252,33 @@ To serve connections over TCP one after another, from the top of the repository:
       EXEC:'./velkatsa talk --journal archive.journal'
 and then, for instance:
   curl 'http://127.0.0.1:8080/fdsnws/dataselect/1/query?net=IU' -o chosen.mseed
+";
+
+/// What `fetch --help` shows: the words of that command.
+pub const FETCH_HELP: &str = "\
+Usage:
+  velkatsa fetch --peer A:P NET STA LOC CHA START END > RECORDS
+
+Asks the data centre at the address A and the port P for the records of the
+channels that have a sample from START to END, over plain HTTP, and writes them
+to standard output when all have come: each once, by name, quality letter and
+start. Where the answer is too large for one request (413), the window is asked
+for again in two halves. An example of A:P is 127.0.0.1:8080 or localhost:8080.
+
+NET, STA, LOC, CHA, START and END are read as those of `velkatsa select`: codes
+with * and ?, lists with commas, '' for the empty location, and times as
+2024-02-01 or 2024-02-01T00:00:15.
+
+All answers have to be over the same archive: each says by X-Archive-Front how
+many entries it had. Where the archive moves meanwhile, or a connection is lost,
+the whole window is asked for anew, in eight rounds at most. A data centre whose
+answers don't have that field isn't understood (centre: bad reply).
+
+On a terminal, standard error tells how many requests were made, and how many
+bytes came. The records of a round are held in memory until all have come, some
+3.5 bytes for each byte of them, and are at most 268435456 bytes.
+
+An example:
+  ./velkatsa fetch --peer 127.0.0.1:8080 IU ANMO 00 BHZ \\
+      2024-02-01 2024-02-02 > anmo.mseed
 ";

@@ -14,7 +14,7 @@ pub struct Outside {
     pub second: Option<Text>,
     /// The address at which the first worker listens, or which it dials. None where there is neither.
     pub address: Option<Text>,
-    /// Whether the first worker's port dials that address: no command does yet.
+    /// Whether the first worker's port dials that address.
     pub dials: bool,
     /// How many workers there are, from 1 to 16.
     pub workers: u8,

@@ -1,11 +1,11 @@
 //! The objects that the words ask for.
 ghost use Rattle.std.specs.Prelude.{◌≡◌, map, string_bytes, IfOk, Some};
-ghost use Rattle.command_words.specs.Arguments.{serve_words_at};
+ghost use Rattle.command_words.specs.Arguments.{fetch_words_at, serve_words_at};
 ghost use Rattle.command_words.specs.Commands.{command_of};
-ghost use Rattle.centre.specs.Outside.{IsOutside, NamesJournal, NamesService};
+ghost use Rattle.centre.specs.Outside.{IsOutside, NamesJournal, NamesPeer, NamesService};
 
 use crate::objects::Outside;
-use command_words::{CommandWords, ServeArguments, command_in};
+use command_words::{CommandWords, FetchArguments, ServeArguments, command_in};
 use exact_time::{OutOfMemory, Text};
 use std::alloc::Global;
 
@@ -47,6 +47,21 @@ fn with_service(alloc: Global, arguments: &ServeArguments) -> Result<Outside, Ou
     })
 }
 
+// The data centre that is dialled.
+fn with_peer(alloc: Global, arguments: &FetchArguments) -> Result<Outside, OutOfMemory>
+    ensures { IfOk result (λ outside. NamesPeer outside (fetch_words_at arguments.now)) }
+{
+    Ok(Outside {
+        journal: None,
+        may_make: false,
+        second: None,
+        address: Some(path_of(alloc, arguments.peer)?),
+        dials: true,
+        workers: 1,
+        sessions: None,
+    })
+}
+
 /// The outside that the words ask for.
 pub fn outside_of(alloc: Global, words: &[String]) -> Result<Outside, OutOfMemory>
     ensures { IfOk result (IsOutside (command_of (map string_bytes words.now))) }
@@ -62,6 +77,7 @@ pub fn outside_of(alloc: Global, words: &[String]) -> Result<Outside, OutOfMemor
             Ok(with_journal(Some(path_of(alloc, arguments.journal)?), false))
         }
         Some(CommandWords::Serve(arguments)) => with_service(alloc, &arguments),
+        Some(CommandWords::Fetch(arguments)) => with_peer(alloc, &arguments),
         _ => Ok(with_journal(None, false)),
     }
 }

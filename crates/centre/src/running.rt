@@ -1,29 +1,33 @@
 //! The top call: all that the program does.
 ghost use Rattle.std.specs.Prelude.{◌≡◌, ◌⊎◌, ◌≤◌, [], length, map, option_map, string_bytes, vec_capacity, None};
-ghost use Rattle.command_words.specs.Arguments.{limits_at as limit_words_at, init_words_at, talk_words_at, serve_words_at, drill_words_at, command_at};
+ghost use Rattle.command_words.specs.Arguments.{limits_at as limit_words_at, init_words_at, talk_words_at, serve_words_at, drill_words_at, fetch_words_at, command_at};
 ghost use Rattle.command_words.specs.Commands.{command_of};
 ghost use Rattle.centre_select.specs.Table.{streams};
-ghost use Rattle.centre.specs.Drills.{DrillEnding, stop_for_drill};
+ghost use Rattle.centre.specs.Drills.{DrillEnding};
+ghost use Rattle.centre.specs.Fetches.{FetchEnding};
 ghost use Rattle.centre.specs.Given.{world};
 ghost use Rattle.centre.specs.Limits.{limits_at};
-ghost use Rattle.centre.specs.Serves.{ServeEnding, stop_for_serve};
+ghost use Rattle.centre.specs.Serves.{ServeEnding};
 ghost use Rattle.centre.specs.Settled.{RunRows};
-ghost use Rattle.centre.specs.Table.{IsRun, IsStarved, IsEnding, InitRow, ShowRow, stop_for_founding};
-ghost use Rattle.centre.specs.Talks.{TalkEnding, stop_for_talk};
+ghost use Rattle.centre.specs.Table.{IsRun, IsStarved, IsEnding, InitEnding, ShowRow};
+ghost use Rattle.centre.specs.Talks.{TalkEnding};
 
 use crate::ending::{Refusal, Stop};
+use crate::fetching::ending_of_fetch;
 use crate::help::text_shown;
 use crate::selecting::choose;
+use crate::stops::{ending_of_drill, ending_of_serve, ending_of_talk, stop_for_founding};
 use crate::telling::{out_of_memory, tell_stop};
-use archive_log::{Archive, FoundFault};
+use archive_log::Archive;
 use archive_state::Limits;
-use centre_drill::{DrillStop, Drilled, drill};
-use centre_serve::{ServeStop, Served, Worker, ports_of, serve};
+use centre_drill::{Drilled, drill};
+use centre_fetch::fetch;
+use centre_serve::{Served, Worker, ports_of, serve};
 use centre_session::{Clock, Trail};
-use centre_talk::{TalkStop, Talked, talk};
+use centre_talk::{Talked, talk};
 use command_words::{
-    CommandWords, DrillArguments, InitArguments, LimitArguments, ServeArguments, TalkArguments,
-    command_in,
+    CommandWords, DrillArguments, FetchArguments, InitArguments, LimitArguments, ServeArguments,
+    TalkArguments, command_in,
 };
 use disk_model::Disk;
 use exact_time::OutOfMemory;
@@ -47,17 +51,6 @@ fn show<S: Source, K: Sink>(text: &str, source: &S, sink: &mut K) -> Result<(), 
     }
 }
 
-// How a fault of founding stops the run.
-fn stop_for_founding(fault: FoundFault) -> Stop
-    ensures { result ≡ stop_for_founding fault }
-{
-    match fault {
-        FoundFault::DiskFault => Stop::DiskFault,
-        FoundFault::NotEmpty(_) => Stop::Refused(Refusal::NotEmpty),
-        FoundFault::OutOfMemory => Stop::OutOfMemory,
-    }
-}
-
 // The limits that the words give.
 fn limits_for(arguments: &LimitArguments) -> Limits
     ensures { limits_at result ≡ limit_words_at arguments.now }
@@ -67,33 +60,6 @@ fn limits_for(arguments: &LimitArguments) -> Limits
         max_lines: arguments.max_lines,
         max_records: arguments.max_records,
         max_archive: arguments.max_archive,
-    }
-}
-
-// How a session over streams stops the run.
-fn stop_for_talk(stop: TalkStop) -> Stop
-    ensures { result ≡ stop_for_talk stop }
-{
-    match stop {
-        TalkStop::ReadFault => Stop::ReadFault,
-        TalkStop::WriteFault => Stop::WriteFault,
-        TalkStop::DiskFault => Stop::DiskFault,
-        TalkStop::OutOfMemory => Stop::OutOfMemory,
-        TalkStop::RequestCut => Stop::Refused(Refusal::RequestCut),
-        TalkStop::NotAJournal => Stop::Refused(Refusal::NotAJournal),
-        TalkStop::Damaged(at) => Stop::Refused(Refusal::Damaged(at)),
-    }
-}
-
-// How a drill stops the run.
-fn stop_for_drill(stop: DrillStop) -> Stop
-    ensures { result ≡ stop_for_drill stop }
-{
-    match stop {
-        DrillStop::WriteFault => Stop::WriteFault,
-        DrillStop::DiskFault => Stop::DiskFault,
-        DrillStop::NotEmpty(_) => Stop::Refused(Refusal::NotEmpty),
-        DrillStop::OutOfMemory => Stop::OutOfMemory,
     }
 }
 
@@ -116,7 +82,7 @@ fn init<S: Source, K: Sink, D: Disk, C: Clock, P: Port + Drop>(
     clock: &C,
     ports: Vec<P>,
 ) -> Done<D, P>
-    ensures row { InitRow D.view (init_words_at arguments.now)
+    ensures row { InitEnding D.view (init_words_at arguments.now)
         (world (S.view source.now) (K.view sink.now) disk (C.given clock.now) None (map P.view ports.items))
         (world (S.view source.now) (K.view sink.now) result.disk (C.given clock.now) result.trail (map P.view result.ports.items))
         result.ending }
@@ -160,32 +126,11 @@ fn converse<R: Wait, S: Source, K: Sink, D: Disk, C: Clock, P: Port + Drop>(
         disk,
         trail,
     } = talk(rt, alloc, source, sink, disk, clock, secret, &limits);
-    match ending {
-        Ok(()) => Done {
-            ending: Ok(()),
-            disk,
-            trail,
-            ports,
-        },
-        Err(stop) => Done {
-            ending: Err(stop_for_talk(stop)),
-            disk,
-            trail,
-            ports,
-        },
-    }
-}
-
-// How a service stops the run.
-fn stop_for_serve(stop: ServeStop) -> Stop
-    ensures { result ≡ stop_for_serve stop }
-{
-    match stop {
-        ServeStop::DiskFault => Stop::DiskFault,
-        ServeStop::PortFault => Stop::PortFault,
-        ServeStop::NotAJournal => Stop::Refused(Refusal::NotAJournal),
-        ServeStop::Damaged(at) => Stop::Refused(Refusal::Damaged(at)),
-        ServeStop::OutOfMemory => Stop::OutOfMemory,
+    Done {
+        ending: ending_of_talk(ending),
+        disk,
+        trail,
+        ports,
     }
 }
 
@@ -223,19 +168,11 @@ fn host<
         disk,
         ports,
     } = serve(rt, alloc, disk, workers, room, secret, &limits);
-    match ending {
-        Ok(()) => Done {
-            ending: Ok(()),
-            disk,
-            trail: None,
-            ports,
-        },
-        Err(stop) => Done {
-            ending: Err(stop_for_serve(stop)),
-            disk,
-            trail: None,
-            ports,
-        },
+    Done {
+        ending: ending_of_serve(ending),
+        disk,
+        trail: None,
+        ports,
     }
 }
 
@@ -256,19 +193,36 @@ fn make_records<S: Source, K: Sink, D: Disk, C: Clock, P: Port + Drop>(
 {
     let records = arguments.records as u32;
     let Drilled { ending, disk } = drill(alloc, records, sink, disk);
-    match ending {
-        Ok(()) => Done {
-            ending: Ok(()),
-            disk,
-            trail: None,
-            ports,
-        },
-        Err(stop) => Done {
-            ending: Err(stop_for_drill(stop)),
-            disk,
-            trail: None,
-            ports,
-        },
+    Done {
+        ending: ending_of_drill(ending),
+        disk,
+        trail: None,
+        ports,
+    }
+}
+
+// The command `fetch`: a window of another data centre, over the first port.
+fn obtain<S: Source, K: Sink, D: Disk, C: Clock, P: Port + Drop>(
+    alloc: Global,
+    arguments: &FetchArguments,
+    source: &S,
+    sink: &mut K,
+    disk: D,
+    clock: &C,
+    mut ports: Vec<P>,
+) -> Done<D, P>
+    requires some { 1 ≤ length ports.items }
+    ensures row { FetchEnding (fetch_words_at arguments.now)
+        (world (S.view source.now) (K.view sink.old) disk (C.given clock.now) None (map P.view ports.items))
+        (world (S.view source.now) (K.view sink.new) result.disk (C.given clock.now) result.trail (map P.view result.ports.items))
+        result.ending }
+{
+    let ending = fetch(alloc, arguments, sink, &mut ports[0]);
+    Done {
+        ending: ending_of_fetch(ending),
+        disk,
+        trail: None,
+        ports,
     }
 }
 
@@ -332,6 +286,10 @@ fn obey_command<
         Some(CommandWords::Drill(arguments)) => {
             let ports = ports_of(workers, room);
             make_records(alloc, &arguments, source, sink, disk, clock, ports)
+        }
+        Some(CommandWords::Fetch(arguments)) => {
+            let ports = ports_of(workers, room);
+            obtain(alloc, &arguments, source, sink, disk, clock, ports)
         }
         Some(CommandWords::Serve(arguments)) => host(
             rt, alloc, &arguments, secret, source, sink, disk, clock, workers, room,
@@ -397,20 +355,26 @@ pub struct Ended<D: Disk, P> {
 /// Does what the words ask for, and answers the exit status. `words` are those after the program's name, and `secret`
 /// is what the nonces of HTTP Digest are made of. On `errors` it tells why it stopped; a fault there leaves the status.
 /// `disk` is the archive's file: a command that uses none gives it back as it was. `talk` alone asks the clock.
-/// `serve` alone asks the ports of the workers, of which there are from 1 to 16; the other commands give them back as they were.
+/// `serve` asks the ports of the workers, of which there are from 1 to 16, and `fetch` the first one; the other commands give
+/// them back as they were.
 ///
 /// | status | comes where |
 /// |---|---|
 /// | 0 | the sink got the whole answer; `init` and `drill` left the new archive on the disk; the session of `talk` was served to its end; every port of `serve` was closed |
 /// | 1 | the words are no command |
 /// | 2 | a word of the query, or a record of the input, is refused |
-/// | 3 | no record is picked |
+/// | 3 | no record is picked, or no bytes were fetched |
 /// | 4 | the answer is longer than the limit |
 /// | 5, 6, 7 | the source, the sink, the disk failed; in `talk` and `serve` the disk stopped a command |
-/// | 8 | the port of a worker of `serve` failed |
+/// | 8 | the port of a worker of `serve`, or that of `fetch`, failed |
 /// | 9 | the file that `init` or `drill` is to make the archive in has bytes, or that which `talk` or `serve` is to open is no archive |
 /// | 10 | the input is longer than 67,108,864 bytes |
 /// | 11 | the input of `talk` ended inside a request |
+/// | 13 | the data centre that `fetch` asks answered a status that is no answer |
+/// | 14 | it gave no reply, or one that can't be used |
+/// | 15 | the last of eight rounds of `fetch` ended at a lost connection, or its answers were over archives of different lengths |
+/// | 17 | the port of `fetch` gave no further link |
+/// | 18 | a round of `fetch` had 10,000 requests |
 /// | 70 | memory ran out |
 pub fn run<
     R: Threads + Wait + Sync,

@@ -21,6 +21,22 @@ fn damage_text(alloc: Global, at: u64) -> Result<String, AllocError>
     Ok(text)
 }
 
+fn peer_text(alloc: Global, status: u16) -> Result<String, AllocError>
+    ensures { IfOk result (λ text. string_bytes text ≡ text_of_refusal (Refusal.Peer status)) }
+{
+    let mut text = format!(in alloc; "centre: peer answered {status}")?;
+    text.push_str("\n")?;
+    Ok(text)
+}
+
+fn move_text(alloc: Global, before: u64, after: u64) -> Result<String, AllocError>
+    ensures { IfOk result (λ text. string_bytes text ≡ text_of_refusal (Refusal.Moved before after)) }
+{
+    let mut text = format!(in alloc; "centre: front moved from {before} to {after}")?;
+    text.push_str("\n")?;
+    Ok(text)
+}
+
 // Tells a refusal of `select`.
 fn tell_select<E: Sink>(alloc: Global, errors: &mut E, refusal: SelectRefusal) -> Stop
     ensures same { ToldFor (stop_for_select (SelectStop.Refused refusal)) result }
@@ -56,7 +72,6 @@ fn tell_refusal<E: Sink>(alloc: Global, errors: &mut E, refusal: Refusal) -> Sto
         (error_text_of result) }
 {
     match refusal {
-        Refusal::UnknownCommand => tell(errors, "centre: unknown command line\n"),
         Refusal::Value(word) => {
             return tell_select(alloc, errors, SelectRefusal::Value(word));
         }
@@ -68,15 +83,25 @@ fn tell_refusal<E: Sink>(alloc: Global, errors: &mut E, refusal: Refusal) -> Sto
         Refusal::TooLarge { bytes, limit } => {
             return tell_select(alloc, errors, SelectRefusal::TooLarge { bytes, limit });
         }
-        Refusal::NotEmpty => tell(errors, "centre: journal is not empty\n"),
-        Refusal::NotAJournal => tell(errors, "centre: not a journal\n"),
-        Refusal::Damaged(at) => {
-            return tell_made(errors, refusal, damage_text(alloc, at));
-        }
         Refusal::InputTooLong => {
             return tell_select(alloc, errors, SelectRefusal::InputTooLong);
         }
+        Refusal::Damaged(at) => {
+            return tell_made(errors, refusal, damage_text(alloc, at));
+        }
+        Refusal::Peer(status) => {
+            return tell_made(errors, refusal, peer_text(alloc, status));
+        }
+        Refusal::Moved(before, after) => {
+            return tell_made(errors, refusal, move_text(alloc, before, after));
+        }
+        Refusal::UnknownCommand => tell(errors, "centre: unknown command line\n"),
+        Refusal::NotEmpty => tell(errors, "centre: journal is not empty\n"),
+        Refusal::NotAJournal => tell(errors, "centre: not a journal\n"),
         Refusal::RequestCut => tell(errors, "centre: request cut\n"),
+        Refusal::BadReply => tell(errors, "centre: bad reply\n"),
+        Refusal::Lost => tell(errors, "centre: connection lost\n"),
+        Refusal::Requests => tell(errors, "centre: too many requests\n"),
     }
     Stop::Refused(refusal)
 }
@@ -93,6 +118,7 @@ pub fn tell_stop<E: Sink>(alloc: Global, errors: &mut E, stop: Stop) -> Stop
         Stop::WriteFault => tell(errors, "centre: write fault\n"),
         Stop::DiskFault => tell(errors, "centre: disk fault\n"),
         Stop::PortFault => tell(errors, "centre: port fault\n"),
+        Stop::NoLink => tell(errors, "centre: no more links\n"),
         Stop::OutOfMemory => tell(errors, MEMORY_TEXT),
     }
     stop

@@ -27,6 +27,7 @@ pub use help::SELECT_HELP;
 pub use running::run_select;
 pub use selecting::select;
 pub use telling::{out_of_memory, tell, tell_refusal, unknown_command};
+pub use words::select_query;
 
 /// How many bytes the input of `select` may have.
 pub const MAX_INPUT: usize = 67_108_864;

@@ -1,7 +1,7 @@
 -- Worked examples of whole command lines.
 use Rattle.std.proofs.Common.{◌≡◌, refl, [], ◌∷◌, Some, None, codes}
 use Rattle.clap.proofs.OnLiterals.{clap_on_literals}
-use Rattle.command_words.specs.Commands.{InitWords, TalkWords, ServeWords, DrillWords, init, talk, serve, drill, show, command_of}
+use Rattle.command_words.specs.Commands.{InitWords, TalkWords, ServeWords, DrillWords, FetchWords, init, talk, serve, drill, fetch, show, command_of}
 use Rattle.command_words.specs.Layouts.{app_for}
 use Rattle.command_words.specs.declared.name.CommandName.TheVariants.{Talk}
 use Rattle.command_words.specs.declared.name.Shown.TheVariants.{Help, Version, HelpOf}
@@ -83,6 +83,26 @@ no_records = refl
 many_records : command_of (codes "drill" ∷ codes "200001" ∷ codes "--journal=a.journal" ∷ []) ≡ None
 unfolding clap_on_literals app_for
 many_records = refl
+
+abbrev fetch_words : FetchWords
+fetch_words = record {
+  peer = codes "127.0.0.1:8080";
+  network = codes "IU";
+  station = codes "ANMO";
+  location = codes "00";
+  channel = codes "BHZ";
+  start = codes "2024-02-01";
+  end = codes "2024-02-02";
+}
+
+-- `fetch` with the address before its positions, which has to be there
+fetch_asked : command_of (codes "fetch" ∷ codes "--peer" ∷ codes "127.0.0.1:8080" ∷ codes "IU" ∷ codes "ANMO" ∷ codes "00" ∷ codes "BHZ" ∷ codes "2024-02-01" ∷ codes "2024-02-02" ∷ []) ≡ Some (fetch fetch_words)
+unfolding clap_on_literals app_for
+fetch_asked = refl
+
+no_peer : command_of (codes "fetch" ∷ codes "IU" ∷ codes "ANMO" ∷ codes "00" ∷ codes "BHZ" ∷ codes "2024-02-01" ∷ codes "2024-02-02" ∷ []) ≡ None
+unfolding clap_on_literals app_for
+no_peer = refl
 
 -- two words are no command of `select`, and help is one of each
 two_words : command_of (codes "select" ∷ codes "IU" ∷ []) ≡ None

@@ -1,7 +1,7 @@
 -- The commands of the program, written out.
 use Rattle.std.proofs.Common.{◌≡◌, refl, [], ◌∷◌, codes}
 use Rattle.command_words.specs.Layouts.{app_with, app_for}
-use Rattle.command_words.specs.declared.name.CommandName.TheVariants.{Select, Init, Talk, Serve, Drill}
+use Rattle.command_words.specs.declared.name.CommandName.TheVariants.{Select, Init, Talk, Serve, Drill, Fetch}
 
 pub select_is : app_with (codes "select") (codes "NET" ∷ codes "STA" ∷ codes "LOC" ∷ codes "CHA" ∷ codes "START" ∷ codes "END" ∷ []) []
     (codes "quality" ∷ codes "minimum" ∷ codes "longest" ∷ codes "max-bytes" ∷ []) ≡ app_for Select
@@ -24,3 +24,8 @@ serve_is = refl
 pub drill_is : app_with (codes "drill") (codes "N" ∷ []) (codes "journal" ∷ []) [] ≡ app_for Drill
 unfolding app_for
 drill_is = refl
+
+pub fetch_is : app_with (codes "fetch") (codes "NET" ∷ codes "STA" ∷ codes "LOC" ∷ codes "CHA" ∷ codes "START" ∷ codes "END" ∷ [])
+    (codes "peer" ∷ []) [] ≡ app_for Fetch
+unfolding app_for
+fetch_is = refl

@@ -1,9 +1,10 @@
 -- The texts of the words that the code lends.
 use Rattle.command_words.specs.declared.arguments.LimitArguments.{LimitArguments}
-use Rattle.command_words.specs.Commands.{SelectWords, InitWords, LimitWords, TalkWords, ServeWords, DrillWords, Command, select, init, talk, serve, drill, show}
+use Rattle.command_words.specs.Commands.{SelectWords, InitWords, LimitWords, TalkWords, ServeWords, DrillWords, FetchWords, Command, select, init, talk, serve, drill, fetch, show}
 use Rattle.command_words.specs.declared.arguments.CommandWords.{CommandWords}
-use Rattle.command_words.specs.declared.arguments.CommandWords.TheVariants.{Select, Init, Talk, Serve, Drill, Show}
+use Rattle.command_words.specs.declared.arguments.CommandWords.TheVariants.{Select, Init, Talk, Serve, Drill, Fetch, Show}
 use Rattle.command_words.specs.declared.arguments.DrillArguments.{DrillArguments}
+use Rattle.command_words.specs.declared.arguments.FetchArguments.{FetchArguments}
 use Rattle.command_words.specs.declared.arguments.InitArguments.{InitArguments}
 use Rattle.command_words.specs.declared.arguments.SelectArguments.{SelectArguments}
 use Rattle.command_words.specs.declared.arguments.ServeArguments.{ServeArguments}
@@ -49,10 +50,22 @@ serve_words_at a = record {
 abbrev pub drill_words_at : DrillArguments → DrillWords
 drill_words_at a = record { journal = a.journal.now; records = a.records }
 
+abbrev pub fetch_words_at : FetchArguments → FetchWords
+fetch_words_at a = record {
+  peer = a.peer.now;
+  network = a.network.now;
+  station = a.station.now;
+  location = a.location.now;
+  channel = a.channel.now;
+  start = a.start.now;
+  end = a.end.now;
+}
+
 abbrev pub command_at : CommandWords → Command
 command_at (Select arguments) = select (words_at arguments)
 command_at (Init arguments) = init (init_words_at arguments)
 command_at (Talk arguments) = talk (talk_words_at arguments)
 command_at (Serve arguments) = serve (serve_words_at arguments)
 command_at (Drill arguments) = drill (drill_words_at arguments)
+command_at (Fetch arguments) = fetch (fetch_words_at arguments)
 command_at (Show shown) = show shown

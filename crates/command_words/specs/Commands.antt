@@ -56,6 +56,16 @@ pub record DrillWords : Type 0 where
   pub journal : Text
   pub records : ℕ
 
+-- what the words of `fetch` say: the address of the data centre, and six positions
+pub record FetchWords : Type 0 where
+  pub peer : Text
+  pub network : Text
+  pub station : Text
+  pub location : Text
+  pub channel : Text
+  pub start : Text
+  pub end : Text
+
 -- what the program can be asked to do
 pub data Command : Type 0 where
   select : SelectWords → Command
@@ -63,6 +73,7 @@ pub data Command : Type 0 where
   talk : TalkWords → Command
   serve : ServeWords → Command
   drill : DrillWords → Command
+  fetch : FetchWords → Command
   show : Shown → Command
 
 abbrev pub select_words_with : List Row → ℕ → SelectWords
@@ -128,6 +139,21 @@ drill_words_with journal records = record { journal = journal; records = records
 abbrev pub drill_words_in : List Row → Option DrillWords
 drill_words_in rows = option_map (drill_words_with (value_or [] (codes "journal") rows)) (limit_in 200_000 (codes "N") rows)
 
+abbrev pub fetch_words_with : List Row → FetchWords
+fetch_words_with rows = record {
+  peer = value_or [] (codes "peer") rows;
+  network = value_or [] (codes "NET") rows;
+  station = value_or [] (codes "STA") rows;
+  location = value_or [] (codes "LOC") rows;
+  channel = value_or [] (codes "CHA") rows;
+  start = value_or [] (codes "START") rows;
+  end = value_or [] (codes "END") rows;
+}
+
+-- the values of `fetch`: whatever they are
+abbrev pub fetch_words_in : List Row → Option FetchWords
+fetch_words_in rows = Some (fetch_words_with rows)
+
 -- what the words give that begin with a command's name
 abbrev pub words_of_command : CommandName → List Text → Option Command
 words_of_command name.Select words = option_map select (read_by (app_for name.Select) select_words_in words)
@@ -135,6 +161,7 @@ words_of_command name.Init words = option_map init (read_by (app_for name.Init) 
 words_of_command name.Talk words = option_map talk (read_by (app_for name.Talk) talk_words_in words)
 words_of_command name.Serve words = option_map serve (read_by (app_for name.Serve) serve_words_in words)
 words_of_command name.Drill words = option_map drill (read_by (app_for name.Drill) drill_words_in words)
+words_of_command name.Fetch words = option_map fetch (read_by (app_for name.Fetch) fetch_words_in words)
 
 -- the command of a name
 abbrev pub command_named : Text → Option CommandName
@@ -143,7 +170,8 @@ command_named word =
     else (if bytes_eq word (codes "init") then Some name.Init
     else (if bytes_eq word (codes "talk") then Some name.Talk
     else (if bytes_eq word (codes "drill") then Some name.Drill
-    else (if bytes_eq word (codes "serve") then Some name.Serve else None))))
+    else (if bytes_eq word (codes "serve") then Some name.Serve
+    else (if bytes_eq word (codes "fetch") then Some name.Fetch else None)))))
 
 -- a word that is a command by itself
 abbrev pub lone_command_of : Text → Option Command

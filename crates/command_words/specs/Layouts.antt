@@ -2,7 +2,7 @@
 use Rattle.std.specs.Prelude.{List, [], ◌∷◌, true, Some, fold, codes}
 use Rattle.clap.specs.Words.{App, Text, new_app, new_rule, with_rule}
 use Rattle.command_words.specs.declared.name.CommandName.{CommandName}
-use Rattle.command_words.specs.declared.name.CommandName.TheVariants.{Select, Init, Talk, Serve, Drill}
+use Rattle.command_words.specs.declared.name.CommandName.TheVariants.{Select, Init, Talk, Serve, Drill, Fetch}
 
 -- a position: a word by itself, which has to be there
 abbrev pub add_position : App → Text → App
@@ -23,7 +23,8 @@ app_with name positions required options =
 
 -- `select NET STA LOC CHA START END` with `--quality`, `--minimum`, `--longest` and `--max-bytes`; `init` with `--journal`,
 -- `--operator` and `--ha1`; `talk` with `--journal` and its limits; `drill N` with `--journal`;
--- `serve` with `--journal`, `--listen`, `--workers`, `--sessions` and the limits of `talk`
+-- `serve` with `--journal`, `--listen`, `--workers`, `--sessions` and the limits of `talk`;
+-- `fetch NET STA LOC CHA START END` with `--peer`
 unfoldable pub app_for : CommandName → App
 app_for Select =
     app_with (codes "select") (codes "NET" ∷ codes "STA" ∷ codes "LOC" ∷ codes "CHA" ∷ codes "START" ∷ codes "END" ∷ []) []
@@ -36,3 +37,5 @@ app_for Serve =
     app_with (codes "serve") [] (codes "journal" ∷ codes "listen" ∷ [])
     (codes "workers" ∷ codes "sessions" ∷ codes "max-bytes" ∷ codes "max-lines" ∷ codes "max-records" ∷ codes "max-archive" ∷ [])
 app_for Drill = app_with (codes "drill") (codes "N" ∷ []) (codes "journal" ∷ []) []
+app_for Fetch =
+    app_with (codes "fetch") (codes "NET" ∷ codes "STA" ∷ codes "LOC" ∷ codes "CHA" ∷ codes "START" ∷ codes "END" ∷ []) (codes "peer" ∷ []) []

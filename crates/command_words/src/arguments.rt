@@ -86,6 +86,19 @@ pub struct DrillArguments<'a> {
     pub ghost records_in: { is_limit 200_000 records ≡ true },
 }
 
+/// The words of `fetch` behind its name: its positions, and what its option says.
+#[derive(Clone, Copy)]
+pub struct FetchArguments<'a> {
+    /// The address of the data centre.
+    pub peer: &'a str,
+    pub network: &'a str,
+    pub station: &'a str,
+    pub location: &'a str,
+    pub channel: &'a str,
+    pub start: &'a str,
+    pub end: &'a str,
+}
+
 /// What the program is asked to do, with the words for it.
 #[derive(Clone, Copy)]
 pub enum CommandWords<'a> {
@@ -94,5 +107,6 @@ pub enum CommandWords<'a> {
     Talk(TalkArguments<'a>),
     Serve(ServeArguments<'a>),
     Drill(DrillArguments<'a>),
+    Fetch(FetchArguments<'a>),
     Show(Shown),
 }

@@ -110,6 +110,13 @@ fn drill_layout<'a>(alloc: Global) -> Result<Command<'a>, AllocError>
     layout(alloc, "drill", &["N"], &["journal"], &[])
 }
 
+fn fetch_layout<'a>(alloc: Global) -> Result<Command<'a>, AllocError>
+    ensures { IfOk result (λ c. app_of c ≡ app_for CommandName.Fetch) }
+{
+    let positions = ["NET", "STA", "LOC", "CHA", "START", "END"];
+    layout(alloc, "fetch", &positions, &["peer"], &[])
+}
+
 /// The command of a name, with the positions and options that it takes.
 pub(crate) fn layout_for<'a>(alloc: Global, name: CommandName) -> Result<Command<'a>, AllocError>
     ensures { IfOk result (λ c. app_of c ≡ app_for name) }
@@ -120,5 +127,6 @@ pub(crate) fn layout_for<'a>(alloc: Global, name: CommandName) -> Result<Command
         CommandName::Talk => talk_layout(alloc),
         CommandName::Serve => serve_layout(alloc),
         CommandName::Drill => drill_layout(alloc),
+        CommandName::Fetch => fetch_layout(alloc),
     }
 }

@@ -8,6 +8,7 @@ pub enum CommandName {
     Talk,
     Serve,
     Drill,
+    Fetch,
 }
 
 /// A text that is shown.

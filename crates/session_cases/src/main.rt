@@ -1,4 +1,4 @@
-//! Cases of the commands, over objects in memory: `select`, `init`, `talk`, `serve` and `drill` are run as the program runs
+//! Cases of the commands, over objects in memory: `select`, `init`, `talk`, `serve`, `drill` and `fetch` are run as the program runs
 //! them, on a file, an input and calls that fail, and what they print and leave is compared with what the case wants.
 //!
 //! The words of the program are the names of its files of cases.

@@ -1,6 +1,6 @@
 //! Bytes with names, and texts in which a name in braces stands for them.
 use case_lines::unescaped;
-use centre::{DRILL_HELP, HELP, INIT_HELP, SELECT_HELP, SERVE_HELP, TALK_HELP};
+use centre::{DRILL_HELP, FETCH_HELP, HELP, INIT_HELP, SELECT_HELP, SERVE_HELP, TALK_HELP};
 use exact_time::{Bytes, Many, OutOfMemory};
 use sample_data::{EPOCHS, FOUNDED, USERS, anmo_record};
 use std::alloc::Global;
@@ -44,6 +44,7 @@ impl Names {
             "talk-help" => return TALK_HELP.as_bytes(),
             "serve-help" => return SERVE_HELP.as_bytes(),
             "drill-help" => return DRILL_HELP.as_bytes(),
+            "fetch-help" => return FETCH_HELP.as_bytes(),
             "users" => return USERS.as_bytes(),
             "epochs" => return EPOCHS.as_bytes(),
             _ => {}

@@ -1,11 +1,15 @@
 //! The program: its words, standard input, output and error, the archive's file, the time of day, 16 random bytes, the ports
-//! of its workers, and [`centre::run`] over them. A worker whose port fails is told on standard error at once.
+//! of its workers, and [`centre::run`] over them. A worker whose port fails is told on standard error at once, and a port that
+//! dials shows on a terminal how much has come.
 //!
 //! What those streams, that file, that clock and those ports give and take is not proved, since a real one tells nothing.
 #![tactic(auto)]
 
 ghost use Rattle.std.specs.Prelude.{◌≡◌, IfOk, length};
 
+mod counting;
+
+use crate::counting::{CountingPort, Progress};
 use centre::{Outside, StdSink, StdSource, Worker, out_of_memory, outside_of, run};
 use centre_session::RealClock;
 use disk_model::FileDisk;
@@ -15,7 +19,7 @@ use link_ports::{PATIENCE, TcpPort, TellingPort};
 use snapshot_hall::OpenGate;
 use std::alloc::Global;
 use std::fs::{File, Files};
-use std::io::{Read, Stderr};
+use std::io::{IsTerminal, Read, Stderr};
 use std::net::{Net, SocketAddr, TcpListener, TcpStream, ToSocketAddrs};
 use std::process::ExitCode;
 use std::rt::Env;
@@ -73,8 +77,27 @@ fn address_for(addresses: &[SocketAddr], number: u8) -> Option<SocketAddr> {
     Some(SocketAddr::new(first.ip(), port))
 }
 
-// A port that tells on standard error that it has failed, by its worker's number from 1.
-type RealPort<'a, R> = TellingPort<TcpPort<&'a R>, StdSink<Stderr>>;
+// A port that tells on standard error that it has failed, by its worker's number from 1, and counts what comes over its links.
+type RealPort<'a, R> = CountingPort<TellingPort<TcpPort<&'a R>, StdSink<Stderr>>, StdSink<Stderr>>;
+
+// What a port says where it fails: of a worker that listens, that it has ended. Of a port that dials the status says enough.
+fn line_for(alloc: Global, dials: bool, number: u8) -> Result<Bytes, OutOfMemory> {
+    if dials {
+        return Ok(Bytes::new(alloc));
+    }
+    let count = u16::from(number) + 1;
+    let line = format!(in alloc; "centre: worker {count} has ended: port fault\n")?;
+    Ok(Bytes::from_vec(line.into_bytes()))
+}
+
+// Where a port that dials shows what comes: on standard error, if that is a terminal.
+fn progress_for(alloc: Global, errors: Stderr, dials: bool) -> Option<Progress<StdSink<Stderr>>> {
+    if dials && errors.is_terminal() {
+        Some(Progress::new(alloc, StdSink::new(errors)))
+    } else {
+        None
+    }
+}
 
 fn port_for<'a, R: Net<Listener = TcpListener, Stream = TcpStream> + Clock>(
     rt: &'a R,
@@ -83,19 +106,22 @@ fn port_for<'a, R: Net<Listener = TcpListener, Stream = TcpStream> + Clock>(
     outside: &Outside,
     number: u8,
 ) -> Result<RealPort<'a, R>, OutOfMemory> {
-    let count = u16::from(number) + 1;
-    let line = format!(in alloc; "centre: worker {count} has ended: port fault\n")?;
+    let dials = outside.dials && number == 0;
+    let line = line_for(alloc, dials, number)?;
     let addresses = addresses_of(rt, alloc, outside)?;
-    let port = if outside.dials && number == 0 {
+    let port = if dials {
         TcpPort::dialling(rt, addresses, Duration::from_secs(PATIENCE))
     } else {
         let address = address_for(addresses.as_slice(), number);
         TcpPort::new(rt, address, outside.sessions)
     };
-    Ok(TellingPort {
-        port,
-        line: Bytes::from_vec(line.into_bytes()),
-        errors: StdSink::new(errors),
+    Ok(CountingPort {
+        port: TellingPort {
+            port,
+            line,
+            errors: StdSink::new(errors),
+        },
+        progress: progress_for(alloc, errors, dials),
     })
 }
 

@@ -18,3 +18,18 @@ pub returns-in-RequestCut-clause-text : goal.returns-in-RequestCut-clause-text
 returns-in-RequestCut-clause-text g c =
     let P : Refusal → Type 0 = λ refusal. Tells (g.E.Stream.view c.args.errors.now) (g.E.Stream.view c.tell-in-RequestCut.new.errors) (text_of_refusal refusal) in
     subst P (sym c.in-RequestCut.is) c.tell-in-RequestCut.ensures
+
+pub returns-in-BadReply-clause-text : goal.returns-in-BadReply-clause-text
+returns-in-BadReply-clause-text g c =
+    let P : Refusal → Type 0 = λ refusal. Tells (g.E.Stream.view c.args.errors.now) (g.E.Stream.view c.tell-in-BadReply.new.errors) (text_of_refusal refusal) in
+    subst P (sym c.in-BadReply.is) c.tell-in-BadReply.ensures
+
+pub returns-in-Lost-clause-text : goal.returns-in-Lost-clause-text
+returns-in-Lost-clause-text g c =
+    let P : Refusal → Type 0 = λ refusal. Tells (g.E.Stream.view c.args.errors.now) (g.E.Stream.view c.tell-in-Lost.new.errors) (text_of_refusal refusal) in
+    subst P (sym c.in-Lost.is) c.tell-in-Lost.ensures
+
+pub returns-in-Requests-clause-text : goal.returns-in-Requests-clause-text
+returns-in-Requests-clause-text g c =
+    let P : Refusal → Type 0 = λ refusal. Tells (g.E.Stream.view c.args.errors.now) (g.E.Stream.view c.tell-in-Requests.new.errors) (text_of_refusal refusal) in
+    subst P (sym c.in-Requests.is) c.tell-in-Requests.ensures

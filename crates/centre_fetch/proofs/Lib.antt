@@ -1,0 +1,4 @@
+pub mod Decide
+pub mod OneFetch
+pub mod Rows
+pub mod SomeFetch
