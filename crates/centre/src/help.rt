@@ -275,8 +275,8 @@ the whole window is asked for anew, in eight rounds at most. A data centre whose
 answers don't have that field isn't understood (centre: bad reply).
 
 On a terminal, standard error tells how many requests were made, and how many
-bytes came. The records of a round are held in memory until all have come, some
-3.5 bytes for each byte of them, and are at most 268435456 bytes.
+bytes came. The records of a round are held in memory until all have come, up to
+four bytes for each byte of them, and are at most 268435456 bytes.
 
 An example:
   ./velkatsa fetch --peer 127.0.0.1:8080 IU ANMO 00 BHZ \\
