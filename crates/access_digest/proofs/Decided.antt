@@ -1,11 +1,11 @@
 -- The tests of who may have a row decide it.
-use Rattle.std.proofs.Common.{◌≡◌, ◌↔◌, ℤ, pos, ◌≤ℤ◌, ◌*ℤ◌, Bool, true, false, not, cond, ◌&&◌, ◌||◌, List, map, Option, Some, None, refl, sym, ◌∙◌, inl, inr, ◌⊎◌, arith, option_map}
-use Rattle.std.specs.Prelude.{IfSome, Any, IsTrue, int_le, int_lt}
+use Rattle.std.proofs.Common.{◌≡◌, ◌↔◌, ◌≤◌, ℤ, pos, ◌≤ℤ◌, ◌*ℤ◌, Bool, true, false, not, cond, ◌&&◌, ◌||◌, List, map, Option, Some, None, refl, sym, ◌∙◌, inl, inr, ◌⊎◌, arith, option_map}
+use Rattle.std.specs.Prelude.{IfSome, Any, IsTrue, nat_le, int_le, int_lt}
 use Rattle.std.specs.List.{list_any}
 use Rattle.std.specs.Str.{bytes_eq}
 use Rattle.std.specs.Ordering.{int_cmp, is_ge, is_le}
 use Rattle.std.specs.declared.cmp.Ordering.TheVariants.{Less, Equal, Greater}
-use Rattle.std.proofs.lemmas.Bool.{and_parts, and_from}
+use Rattle.std.proofs.lemmas.Bool.{and_parts, and_from, leb-true, le-leb}
 use Rattle.std.proofs.lemmas.Int.{ints}
 use Rattle.std.proofs.lemmas.List.Folds.{Any-from_list_any, list_any-from_Any}
 use Rattle.std.proofs.lemmas.Slice.Eq.{bytes_eq-Decides}
@@ -17,17 +17,18 @@ use Rattle.channel_globs.specs.declared.nslc.Nslc.{Nslc}
 use Rattle.exact_time.specs.declared.moment.Moment.{Moment}
 use Rattle.epochs.specs.declared.line.Grant.{Grant}
 use Rattle.epochs.specs.declared.line.Line.{Line}
-use Rattle.epochs.specs.declared.line.Line.TheVariants.{Net, Sta, Cha, Evt, Rst, Grt, Usr, Del}
+use Rattle.epochs.specs.declared.line.Line.TheVariants.{Net, Sta, Cha, Evt, Rst, Grt, Usr, Wdr, Del}
 use Rattle.epochs.specs.declared.line.Restriction.{Restriction}
-use Rattle.epochs.specs.declared.parts.Glob.{Glob}
+use Rattle.epochs.specs.declared.line.Withdrawal.{Withdrawal}
+use Rattle.epochs.specs.declared.parts.Globs.{Globs}
 use Rattle.epochs.specs.Kinds.{Text}
 use Rattle.epochs.specs.Views.{values_of_line}
 use Rattle.epoch_catalog.proofs.Heads.{any_mapped}
 use Rattle.mseed_header.specs.declared.row.Row.{Row}
 use Rattle.dataselect.specs.Query.{holds, reaches, starts_by}
 use Rattle.dataselect.specs.Law.{IsReached}
-use Rattle.access_digest.specs.Access.{is_over_by, touches, covers, is_touched, is_covered, may_have}
-use Rattle.access_digest.specs.AccessLaw.{MatchFour, IsOverBy, Touches, Covers, IsTouching, IsCovering, IsTouched, IsCovered, MayHave}
+use Rattle.access_digest.specs.Access.{is_over_by, touches, covers, is_touched, is_covered, may_have, withdraws, is_withdrawn}
+use Rattle.access_digest.specs.AccessLaw.{MatchFour, IsOverBy, Touches, Covers, IsTouching, IsCovering, IsTouched, IsCovered, MayHave, Withdraws, IsWithdrawing, IsWithdrawnBy}
 
 -- an end that holds, of a line's values
 holds_decides : (test : ℤ → Bool) (P : ℤ → Type 0) → ((x : ℤ) → IsTrue (test x) ↔ P x) → (o : Option Moment) → IsTrue (holds test (option_map (λ t. t.micros) o)) ↔ IfSome o (λ t. P t.micros)
@@ -61,7 +62,7 @@ le_of false false h = refl
 not_both : (a b : ℤ) → (int_lt a b && int_lt b a) ≡ false
 not_both a b = grind (arith, ints)
 
-over_decides : (a b : ℤ) → IsTrue (is_le (int_cmp a b)) ↔ (a ≤ℤ b)
+pub over_decides : (a b : ℤ) → IsTrue (is_le (int_cmp a b)) ↔ (a ≤ℤ b)
 over_decides a b =
     let same = le_of (int_lt a b) (int_lt b a) (not_both a b) in
     (λ h. (not_below b a).0 (sym same ∙ h), λ h. same ∙ (not_below b a).1 h)
@@ -69,38 +70,38 @@ over_decides a b =
 le_decides : (a b : ℤ) → IsTrue (int_le a b) ↔ (a ≤ℤ b)
 le_decides a b = (λ h. grind (arith, ints), λ h. grind (arith, ints))
 
-four_decide : (network station location channel : Glob) (name : Nslc)
-    → IsTrue (is_match_any network.list name.network && is_match_any station.list name.station && is_match_any location.list name.location && is_match_any channel.list name.channel)
-    ↔ MatchFour network station location channel name
-four_decide network station location channel name =
-    let n = is_match_any network.list name.network in
-    let t = is_match_any station.list name.station in
-    let l = is_match_any location.list name.location in
-    let c = is_match_any channel.list name.channel in (
+four_decide : (channels : Globs) (name : Nslc)
+    → IsTrue (is_match_any channels.network.list name.network && is_match_any channels.station.list name.station && is_match_any channels.location.list name.location && is_match_any channels.channel.list name.channel)
+    ↔ MatchFour channels name
+four_decide channels name =
+    let n = is_match_any channels.network.list name.network in
+    let t = is_match_any channels.station.list name.station in
+    let l = is_match_any channels.location.list name.location in
+    let c = is_match_any channels.channel.list name.channel in (
       λ h.
           let p = and_parts ((n && t) && l) c h in
           let q = and_parts (n && t) l p.0 in
           let r = and_parts n t q.0 in
           record {
-            by_network = (any_decides network.list name.network).0 r.0;
-            by_station = (any_decides station.list name.station).0 r.1;
-            by_location = (any_decides location.list name.location).0 q.1;
-            by_channel = (any_decides channel.list name.channel).0 p.1;
+            by_network = (any_decides channels.network.list name.network).0 r.0;
+            by_station = (any_decides channels.station.list name.station).0 r.1;
+            by_location = (any_decides channels.location.list name.location).0 q.1;
+            by_channel = (any_decides channels.channel.list name.channel).0 p.1;
           },
       λ h. and_from ((n && t) && l) c
-          (and_from (n && t) l (and_from n t ((any_decides network.list name.network).1 h.by_network) ((any_decides station.list name.station).1 h.by_station)) ((any_decides location.list name.location).1 h.by_location))
-          ((any_decides channel.list name.channel).1 h.by_channel),
+          (and_from (n && t) l (and_from n t ((any_decides channels.network.list name.network).1 h.by_network) ((any_decides channels.station.list name.station).1 h.by_station)) ((any_decides channels.location.list name.location).1 h.by_location))
+          ((any_decides channels.channel.list name.channel).1 h.by_channel),
     )
 
 restriction_decides : (r : Restriction) (row : Row) → IsTrue (touches (values_of_line (Rst r)) row) ↔ Touches r row
 restriction_decides r row =
     let h = row.header in
-    let n = is_match_any r.network.list h.name.network && is_match_any r.station.list h.name.station && is_match_any r.location.list h.name.location && is_match_any r.channel.list h.name.channel in
-    let s = reaches h r.start.micros in
-    let e = holds (λ stop. starts_by h stop) (option_map (λ t. t.micros) r.end) in
-    let four = four_decide r.network r.station r.location r.channel h.name in
-    let reach : IsTrue s ↔ IsReached h r.start.micros = ge_decides (sample_micros h.start.micros (last_index h) h.rate) (r.start.micros *ℤ pos (sample_parts h.rate)) in
-    let start = holds_decides (λ stop. starts_by h stop) (λ stop. h.start.micros ≤ℤ stop) (λ stop. le_decides h.start.micros stop) r.end in (
+    let n = is_match_any r.channels.network.list h.name.network && is_match_any r.channels.station.list h.name.station && is_match_any r.channels.location.list h.name.location && is_match_any r.channels.channel.list h.name.channel in
+    let s = reaches h r.times.start.micros in
+    let e = holds (λ stop. starts_by h stop) (option_map (λ t. t.micros) r.times.end) in
+    let four = four_decide r.channels h.name in
+    let reach : IsTrue s ↔ IsReached h r.times.start.micros = ge_decides (sample_micros h.start.micros (last_index h) h.rate) (r.times.start.micros *ℤ pos (sample_parts h.rate)) in
+    let start = holds_decides (λ stop. starts_by h stop) (λ stop. h.start.micros ≤ℤ stop) (λ stop. le_decides h.start.micros stop) r.times.end in (
       λ k.
           let p = and_parts n (s && e) k in
           let q = and_parts s e p.1 in
@@ -112,12 +113,12 @@ grant_decides : (user : Text) (g : Grant) (row : Row) → IsTrue (covers user (v
 grant_decides user g row =
     let h = row.header in
     let u = bytes_eq user g.user in
-    let n = is_match_any g.network.list h.name.network && is_match_any g.station.list h.name.station && is_match_any g.location.list h.name.location && is_match_any g.channel.list h.name.channel in
-    let s = int_le g.start.micros h.start.micros in
-    let e = holds (λ stop. is_over_by h stop) (option_map (λ t. t.micros) g.end) in
-    let four = four_decide g.network g.station g.location g.channel h.name in
-    let start = le_decides g.start.micros h.start.micros in
-    let over = holds_decides (λ stop. is_over_by h stop) (λ stop. IsOverBy h stop) (λ stop. over_decides (sample_micros h.start.micros (last_index h) h.rate) (stop *ℤ pos (sample_parts h.rate))) g.end in
+    let n = is_match_any g.channels.network.list h.name.network && is_match_any g.channels.station.list h.name.station && is_match_any g.channels.location.list h.name.location && is_match_any g.channels.channel.list h.name.channel in
+    let s = int_le g.times.start.micros h.start.micros in
+    let e = holds (λ stop. is_over_by h stop) (option_map (λ t. t.micros) g.times.end) in
+    let four = four_decide g.channels h.name in
+    let start = le_decides g.times.start.micros h.start.micros in
+    let over = holds_decides (λ stop. is_over_by h stop) (λ stop. IsOverBy h stop) (λ stop. over_decides (sample_micros h.start.micros (last_index h) h.rate) (stop *ℤ pos (sample_parts h.rate))) g.times.end in
     let same = bytes_eq-Decides user g.user in (
       λ k.
           let p = and_parts (u && n) (s && e) k in
@@ -125,6 +126,25 @@ grant_decides user g row =
           let r = and_parts u n p.0 in
           (sym (same.0 r.0), record { named = four.0 r.1; started = start.0 q.0; over = over.0 q.1 }),
       λ k. and_from (u && n) (s && e) (and_from u n (same.1 (sym k.0)) (four.1 k.1.named)) (and_from s e (start.1 k.1.started) (over.1 k.1.over)),
+    )
+
+withdrawal_decides : (w : Withdrawal) (row : Row) → IsTrue (withdraws (values_of_line (Wdr w)) row) ↔ Withdraws w row
+withdrawal_decides w row =
+    let h = row.header in
+    let n = is_match_any w.channels.network.list h.name.network && is_match_any w.channels.station.list h.name.station && is_match_any w.channels.location.list h.name.location && is_match_any w.channels.channel.list h.name.channel in
+    let s = int_le w.times.start.micros h.start.micros in
+    let e = holds (λ stop. is_over_by h stop) (option_map (λ t. t.micros) w.times.end) in
+    let u = nat_le row.entry w.upto in
+    let four = four_decide w.channels h.name in
+    let start = le_decides w.times.start.micros h.start.micros in
+    let over = holds_decides (λ stop. is_over_by h stop) (λ stop. IsOverBy h stop) (λ stop. over_decides (sample_micros h.start.micros (last_index h) h.rate) (stop *ℤ pos (sample_parts h.rate))) w.times.end in
+    let early : IsTrue u ↔ (row.entry ≤ w.upto) = (leb-true row.entry w.upto, le-leb row.entry w.upto) in (
+      λ k.
+          let p = and_parts (n && (s && e)) u k in
+          let q = and_parts n (s && e) p.0 in
+          let r = and_parts s e q.1 in
+          record { named = four.0 q.0; started = start.0 r.0; over = over.0 r.1; early = early.0 p.1 },
+      λ k. and_from (n && (s && e)) u (and_from n (s && e) (four.1 k.named) (and_from s e (start.1 k.started) (over.1 k.over))) (early.1 k.early),
     )
 
 no_truth : IsTrue false ↔ ⊥
@@ -138,6 +158,7 @@ touching_decides row (Evt n) = no_truth
 touching_decides row (Rst r) = restriction_decides r row
 touching_decides row (Grt n) = no_truth
 touching_decides row (Usr n) = no_truth
+touching_decides row (Wdr n) = no_truth
 touching_decides row (Del n) = no_truth
 
 covering_decides : (user : Text) (row : Row) (l : Line) → IsTrue (covers user (values_of_line l) row) ↔ IsCovering user row l
@@ -148,6 +169,7 @@ covering_decides user row (Evt n) = no_truth
 covering_decides user row (Rst n) = no_truth
 covering_decides user row (Grt g) = grant_decides user g row
 covering_decides user row (Usr n) = no_truth
+covering_decides user row (Wdr n) = no_truth
 covering_decides user row (Del n) = no_truth
 
 pub touched_decides : (lines : List Line) (row : Row) → IsTrue (is_touched (map values_of_line lines) row) ↔ IsTouched lines row
@@ -170,3 +192,20 @@ either_decides false c t k = (λ h. inl (λ h. no_truth.0 (t.1 h)), λ h. refl)
 pub may_decides : (lines : List Line) (user : Option Text) (row : Row) → IsTrue (may_have (map values_of_line lines) user row) ↔ MayHave lines user row
 may_decides lines user row =
     either_decides (is_touched (map values_of_line lines) row) (is_covered (map values_of_line lines) user row) {T = IsTouched lines row} {C = IsCovered lines user row} (touched_decides lines row) (covered_decides lines user row)
+
+withdrawing_decides : (row : Row) (l : Line) → IsTrue (withdraws (values_of_line l) row) ↔ IsWithdrawing row l
+withdrawing_decides row (Net n) = no_truth
+withdrawing_decides row (Sta n) = no_truth
+withdrawing_decides row (Cha n) = no_truth
+withdrawing_decides row (Evt n) = no_truth
+withdrawing_decides row (Rst n) = no_truth
+withdrawing_decides row (Grt n) = no_truth
+withdrawing_decides row (Usr n) = no_truth
+withdrawing_decides row (Wdr w) = withdrawal_decides w row
+withdrawing_decides row (Del n) = no_truth
+
+pub withdrawn_decides : (lines : List Line) (row : Row) → IsTrue (is_withdrawn (map values_of_line lines) row) ↔ IsWithdrawnBy lines row
+withdrawn_decides lines row =
+    let each = any_as (λ l. withdraws (values_of_line l) row) (IsWithdrawing row) (withdrawing_decides row) lines in
+    let same = any_mapped values_of_line (λ e. withdraws e row) lines in
+    (λ h. each.0 (sym same ∙ h), λ h. same ∙ each.1 h)

@@ -2,8 +2,10 @@ pub mod Decided
 pub mod Examples
 pub mod Isolation
 pub mod Lines
-pub mod OneCodes
+pub mod MarkSearch
+pub mod Spared
 pub mod WideLines
 pub mod Wholes
+pub mod Withdrawing
 pub mod WhoFound
 pub mod Named

@@ -11,7 +11,7 @@ use Rattle.channel_globs.specs.PatternText.{IsPatternList}
 use Rattle.channel_globs.specs.declared.nslc.Part.TheVariants.{Network}
 use Rattle.epochs.specs.declared.line.Grant.{Grant}
 use Rattle.epochs.specs.declared.line.Line.{Line}
-use Rattle.epochs.specs.declared.line.Line.TheVariants.{Net, Sta, Cha, Evt, Rst, Grt, Usr, Del}
+use Rattle.epochs.specs.declared.line.Line.TheVariants.{Net, Sta, Cha, Evt, Rst, Grt, Usr, Wdr, Del}
 use Rattle.epochs.specs.declared.line.Restriction.{Restriction}
 use Rattle.epochs.specs.Kinds.{Text}
 use Rattle.epochs.specs.Lines.{LineValues}
@@ -21,10 +21,10 @@ use Rattle.epochs.proofs.SpellableWord.{spellable_has}
 use Rattle.epoch_catalog.specs.declared.families.Family.TheVariants as family
 use Rattle.epoch_catalog.specs.Families.{is_in}
 use Rattle.epoch_catalog.specs.Wide.{is_one_code, is_wide, StandAt}
+use Rattle.epoch_catalog.proofs.OneCodes.{one_code_matches}
 use Rattle.mseed_header.specs.declared.row.Row.{Row}
 use Rattle.access_digest.specs.Access.{restricts, touches, covers, meets_times, keeps_times, matches_name, is_there}
 use Rattle.access_digest.proofs.Lines.{any_live}
-use Rattle.access_digest.proofs.OneCodes.{one_code_matches}
 
 -- a test of the lines at some places is a test of the lines that stand there
 pub any_at : (test : LineValues → Bool) (lines : List Line) (places : List ℕ) (found : List LineValues) → StandAt (map values_of_line lines) places found
@@ -65,16 +65,16 @@ any_split p q test (line ∷ lines) either =
 written_or_wide : (text : Text) (list : List Text) (code : Text) → IsPatternList Network text list → is_match_any list code ≡ true → (bytes_eq text code || not (is_one_code text)) ≡ true
 written_or_wide text list code read m =
     elim (is_one_code text) as (λ b. is_one_code text ≡ b → (bytes_eq text code || not b) ≡ true) [
-      | true ↦ λ one. ap (λ b. b || false) ((bytes_eq-Decides text code).1 (one_code_matches text list code read one m))
+      | true ↦ λ one. ap (λ b. b || false) ((bytes_eq-Decides text code).1 (one_code_matches Network text list code refl read one m))
       | false ↦ λ one. elim (bytes_eq text code) as (λ b. (b || true) ≡ true) [ true ↦ refl | false ↦ refl ]
     ] refl
 
 -- the patterns of a restriction's network are those that its text spells, and those of a grant's
-restriction_reads : (r : Restriction) → IsPatternList Network r.network.text r.network.list
-restriction_reads r = (spellable_has (restriction_line r.network r.station r.location r.channel r.start r.end) r.spellable).values_are.0
+restriction_reads : (r : Restriction) → IsPatternList Network r.channels.network.text r.channels.network.list
+restriction_reads r = (spellable_has (restriction_line r.channels r.times) r.spellable).values_are.0
 
-grant_reads : (g : Grant) → IsPatternList Network g.network.text g.network.list
-grant_reads g = (spellable_has (grant_line g.user g.network g.station g.location g.channel g.start g.end) g.spellable).values_are.1.0
+grant_reads : (g : Grant) → IsPatternList Network g.channels.network.text g.channels.network.list
+grant_reads g = (spellable_has (grant_line g.user g.channels g.times) g.spellable).values_are.1.0
 
 four_first : (n s l c : Bool) → (n && s && l && c) ≡ true → n ≡ true
 four_first n s l c h = (and_parts n s (and_parts (n && s) l (and_parts (n && s && l) c h).0).0).0
@@ -87,15 +87,16 @@ restricting_place name (Sta x) h = absurd (true≢false (sym h))
 restricting_place name (Cha x) h = absurd (true≢false (sym h))
 restricting_place name (Evt x) h = absurd (true≢false (sym h))
 restricting_place name (Rst r) h =
-    let here = written_or_wide r.network.text r.network.list name.network (restriction_reads r) (four_first _ _ _ _ h) in
-    or_nothing (bytes_eq r.network.text name.network) (not (is_one_code r.network.text)) here
+    let here = written_or_wide r.channels.network.text r.channels.network.list name.network (restriction_reads r) (four_first _ _ _ _ h) in
+    or_nothing (bytes_eq r.channels.network.text name.network) (not (is_one_code r.channels.network.text)) here
   where
-    or_nothing : (a b : Bool) → (a || b) ≡ true → (a || (b || false)) ≡ true
+    or_nothing : (a b : Bool) → (a || b) ≡ true → (a || ((b || false) || false)) ≡ true
     or_nothing true b h = refl
     or_nothing false true h = refl
     or_nothing false false h = h
 restricting_place name (Grt x) h = absurd (true≢false (sym h))
 restricting_place name (Usr x) h = absurd (true≢false (sym h))
+restricting_place name (Wdr x) h = absurd (true≢false (sym h))
 restricting_place name (Del x) h = absurd (true≢false (sym h))
 
 pub touching_place : (row : Row) (line : Line) → touches (values_of_line line) row ≡ true
@@ -114,14 +115,17 @@ covering_place user name is row (Grt g) h =
     let e = values_of_line (Grt g) in
     let first = and_parts (bytes_eq name g.user && matches_name e row.header.name) (keeps_times e row.header) h in
     let both = and_parts (bytes_eq name g.user) (matches_name e row.header.name) first.0 in
-    let here = written_or_wide g.network.text g.network.list row.header.name.network (grant_reads g) (four_first _ _ _ _ both.1) in
+    let here = written_or_wide g.channels.network.text g.channels.network.list row.header.name.network (grant_reads g) (four_first _ _ _ _ both.1) in
     let turned : bytes_eq g.user user.now ≡ true = (bytes_eq-Decides g.user user.now).1 (sym (is ∙ (bytes_eq-Decides name g.user).0 both.0)) in
-    owned (bytes_eq g.user user.now) (bytes_eq g.network.text row.header.name.network) (not (is_one_code g.network.text)) turned here
+    owned (bytes_eq g.user user.now) (bytes_eq g.channels.network.text row.header.name.network) (not (is_one_code g.channels.network.text)) turned here
   where
-    owned : (u a b : Bool) → u ≡ true → (a || b) ≡ true → ((u && a) || (u && b)) ≡ true
-    owned true a b own h = h
+    owned : (u a b : Bool) → u ≡ true → (a || b) ≡ true → ((u && a) || (u && (b || false))) ≡ true
+    owned true true b own h = refl
+    owned true false true own h = refl
+    owned true false false own h = h
     owned false a b own h = absurd (true≢false (sym own))
 covering_place user name is row (Usr x) h = absurd (true≢false (sym h))
+covering_place user name is row (Wdr x) h = absurd (true≢false (sym h))
 covering_place user name is row (Del x) h = absurd (true≢false (sym h))
 
 -- what is found among the lines of two kinds, where the lines of one are handed out and those of the other
@@ -139,7 +143,7 @@ any_placed p q test lines written places live a b are handed stand either first 
     ap (λ x. x || b) (sym missed) ∙ (λ i. one i || two i) ∙ subst (λ (all : List LineValues). (list_any test (filter p all) || list_any test (filter q all)) ≡ list_any test all) are (any_split p q test lines either)
 
 -- what is found among some of the lines is found among all
-kept_there : (p test : LineValues → Bool) (live : List LineValues) → list_any test (filter p live) ≡ true → list_any test live ≡ true
+pub kept_there : (p test : LineValues → Bool) (live : List LineValues) → list_any test (filter p live) ≡ true → list_any test live ≡ true
 kept_there p test [] h = h
 kept_there p test (e ∷ live) h =
     elim (p e) as (λ b. list_any test (cond b (e ∷ filter p live) (filter p live)) ≡ true → (test e || list_any test live) ≡ true) [

@@ -1,13 +1,13 @@
--- Who may have which rows: restrictions hide rows, and grants give them back to users.
-use Rattle.std.specs.Prelude.{ℤ, Bool, false, not, ◌&&◌, ◌||◌, List, [], ◌∷◌, filter, Option, Some, None, int_le}
+-- Who may have which rows: restrictions hide rows, grants give them back to users, and withdrawals take them from all.
+use Rattle.std.specs.Prelude.{ℕ, ℤ, nat_le, Bool, false, not, ◌&&◌, ◌||◌, List, [], ◌∷◌, filter, Option, Some, None, int_le}
 use Rattle.std.specs.List.{list_any}
 use Rattle.std.specs.Ordering.{is_le}
 use Rattle.exact_time.specs.SampleTime.{compare_sample}
 use Rattle.channel_globs.specs.Matching.{is_match_any}
 use Rattle.channel_globs.specs.declared.nslc.Nslc.{Nslc}
-use Rattle.epochs.specs.declared.kinds.LineKind.TheVariants.{Rst}
+use Rattle.epochs.specs.declared.kinds.LineKind.TheVariants.{Rst, Wdr}
 use Rattle.epochs.specs.Kinds.{Text}
-use Rattle.epochs.specs.Fields.{Value, patterns}
+use Rattle.epochs.specs.Fields.{Value, patterns, entry_number}
 use Rattle.epochs.specs.Lines.{LineValues, end_of}
 use Rattle.epoch_rules.specs.Losses.{is_grant_of}
 use Rattle.epoch_rules.specs.Rules.{is_line_of, epoch_start}
@@ -74,6 +74,33 @@ may_have live user row = not (is_touched live row) || is_covered live user row
 -- no live restriction's patterns match the name
 abbrev pub is_unrestricted : List LineValues → Nslc → Bool
 is_unrestricted live name = not (list_any (λ e. restricts e name) live)
+
+-- up to which entry a withdrawal reaches, among the values of its line
+abbrev pub upto_in : List Value → ℕ
+upto_in [] = 0
+upto_in (entry_number n ∷ values) = n
+upto_in (_ ∷ values) = upto_in values
+
+-- a withdrawal whose patterns match the name
+abbrev pub withdraws_some : LineValues → Nslc → Bool
+withdraws_some e name = is_line_of Wdr e && matches_name e name
+
+-- a withdrawal covers a row: its patterns match, the row lies between its start and its end, and the row's entry is no later
+-- than the last one that it reaches
+abbrev pub withdraws : LineValues → Row → Bool
+withdraws e row = is_line_of Wdr e && matches_name e row.header.name && keeps_times e row.header && nat_le row.entry (upto_in e.values)
+
+-- a live withdrawal covers the row
+abbrev pub is_withdrawn : List LineValues → Row → Bool
+is_withdrawn live row = list_any (λ e. withdraws e row) live
+
+-- what a caller sees: what it may have, unless that is withdrawn
+abbrev pub is_seen : List LineValues → Option Text → Row → Bool
+is_seen live user row = may_have live user row && not (is_withdrawn live row)
+
+-- no live restriction's patterns and no live withdrawal's match the name
+abbrev pub is_whole : List LineValues → Nslc → Bool
+is_whole live name = is_unrestricted live name && not (list_any (λ e. withdraws_some e name) live)
 
 -- the live grants of a user; without a user there is none
 abbrev pub grants_of : List LineValues → Option Text → List LineValues

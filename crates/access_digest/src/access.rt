@@ -4,7 +4,7 @@ ghost use Rattle.std.specs.List.{list_any, slice_get};
 ghost use Rattle.epochs.specs.Views.{values_of_line};
 ghost use Rattle.access_digest.specs.Access.{restricts, touches, covers, is_touched, is_covered, is_unrestricted, is_there, may_have};
 
-use crate::patterns::{Patterns, keeps_times, match_codes, meets_times};
+use crate::patterns::{keeps_times, match_codes, meets_times};
 use channel_globs::Nslc;
 use epoch_catalog::{Catalog, Family};
 use epochs::{Line, User};
@@ -15,15 +15,7 @@ fn restricts(line: &Line, name: &Nslc) -> bool
     ensures { result ≡ restricts (values_of_line line.now) name.now }
 {
     match line {
-        Line::Rst(restriction) => match_codes(
-            Patterns {
-                network: &restriction.network,
-                station: &restriction.station,
-                location: &restriction.location,
-                channel: &restriction.channel,
-            },
-            name,
-        ),
+        Line::Rst(restriction) => match_codes(&restriction.channels, name),
         _ => false,
     }
 }
@@ -34,8 +26,7 @@ fn touches(line: &Line, row: &Row) -> bool
 {
     match line {
         Line::Rst(restriction) => {
-            restricts(line, &row.header.name)
-                && meets_times(&row.header, restriction.start, restriction.end)
+            restricts(line, &row.header.name) && meets_times(&row.header, restriction.times)
         }
         _ => false,
     }
@@ -48,16 +39,8 @@ fn covers(user: &User, line: &Line, row: &Row) -> bool
     match line {
         Line::Grt(grant) => {
             user.name.as_slice() == grant.user.as_slice()
-                && match_codes(
-                    Patterns {
-                        network: &grant.network,
-                        station: &grant.station,
-                        location: &grant.location,
-                        channel: &grant.channel,
-                    },
-                    &row.header.name,
-                )
-                && keeps_times(&row.header, grant.start, grant.end)
+                && match_codes(&grant.channels, &row.header.name)
+                && keeps_times(&row.header, grant.times)
         }
         _ => false,
     }
@@ -133,13 +116,20 @@ fn restricts_at(lines: &[Line], places: &[usize], name: &Nslc) -> bool
         .any(|place| restricts_there(lines, *place, name))
 }
 
-/// Whether a live restriction touches the row: one whose network is written as the row's, or a wide one.
-pub fn is_touched(catalog: &Catalog, row: &Row) -> bool
+// Whether a live restriction touches the row: one whose network is written as the row's, or a wide one.
+fn is_touched_by_one(catalog: &Catalog, row: &Row) -> bool
     ensures { result ≡ is_touched catalog.now row.now }
 {
     let network = row.header.name.network;
     some_touches(catalog.family(&Family::RestrictionsOn(network)), row)
         || touches_at(catalog.lines(), catalog.wide(&Family::Restrictions), row)
+}
+
+/// Whether a live restriction touches the row. Where there is none, nothing is searched.
+pub fn is_touched(catalog: &Catalog, row: &Row) -> bool
+    ensures { result ≡ is_touched catalog.now row.now }
+{
+    catalog.has_restrictions() && is_touched_by_one(catalog, row)
 }
 
 // Whether a live grant of this user covers the row.

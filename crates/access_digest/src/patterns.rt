@@ -5,27 +5,18 @@ ghost use Rattle.dataselect.specs.Query.{holds, reaches, starts_by};
 ghost use Rattle.access_digest.specs.Access.{match_codes, is_over_by};
 
 use channel_globs::Nslc;
-use epochs::Glob;
+use epochs::{EpochTimes, Globs};
 use exact_time::{Moment, cmp_sample_time};
 use mseed_header::{Header, last};
 
-/// The patterns of a line: a list for each code.
-#[derive(Clone, Copy)]
-pub struct Patterns<'a> {
-    pub network: &'a Glob,
-    pub station: &'a Glob,
-    pub location: &'a Glob,
-    pub channel: &'a Glob,
-}
-
 /// Whether the four lists match the four codes.
-pub fn match_codes(patterns: Patterns<'_>, name: &Nslc) -> bool
-    ensures { result ≡ match_codes (patterns.entry.network.now.list ∷ patterns.entry.station.now.list ∷ patterns.entry.location.now.list ∷ patterns.entry.channel.now.list ∷ []) name.now }
+pub fn match_codes(channels: &Globs, name: &Nslc) -> bool
+    ensures { result ≡ match_codes (channels.now.network.list ∷ channels.now.station.list ∷ channels.now.location.list ∷ channels.now.channel.list ∷ []) name.now }
 {
-    patterns.network.list.matches(&name.network)
-        && patterns.station.list.matches(&name.station)
-        && patterns.location.list.matches(&name.location)
-        && patterns.channel.list.matches(&name.channel)
+    channels.network.list.matches(&name.network)
+        && channels.station.list.matches(&name.station)
+        && channels.location.list.matches(&name.location)
+        && channels.channel.list.matches(&name.channel)
 }
 
 // Whether the record's first sample is at an end or earlier.
@@ -38,8 +29,8 @@ fn starts_by(header: &Header, end: Option<Moment>) -> bool
     }
 }
 
-// Whether the record's last sample is at an end or earlier.
-fn is_over_by(header: &Header, end: Option<Moment>) -> bool
+/// Whether the record's last sample is at an end or earlier.
+pub fn is_over_by(header: &Header, end: Option<Moment>) -> bool
     ensures { result ≡ holds (λ stop. is_over_by header.now stop) (option_map (λ t. t.micros) end) }
 {
     match end {
@@ -49,15 +40,15 @@ fn is_over_by(header: &Header, end: Option<Moment>) -> bool
 }
 
 /// Whether the record has a sample no earlier than the start, and one no later than the end.
-pub fn meets_times(header: &Header, start: Moment, end: Option<Moment>) -> bool
-    ensures { result ≡ (reaches header.now start.micros && holds (λ stop. starts_by header.now stop) (option_map (λ t. t.micros) end)) }
+pub fn meets_times(header: &Header, times: EpochTimes) -> bool
+    ensures { result ≡ (reaches header.now times.start.micros && holds (λ stop. starts_by header.now stop) (option_map (λ t. t.micros) times.end)) }
 {
-    cmp_sample_time(last(header), start).is_ge() && starts_by(header, end)
+    cmp_sample_time(last(header), times.start).is_ge() && starts_by(header, times.end)
 }
 
 /// Whether the record lies between the start and the end.
-pub fn keeps_times(header: &Header, start: Moment, end: Option<Moment>) -> bool
-    ensures { result ≡ (int_le start.micros header.now.start.micros && holds (λ stop. is_over_by header.now stop) (option_map (λ t. t.micros) end)) }
+pub fn keeps_times(header: &Header, times: EpochTimes) -> bool
+    ensures { result ≡ (int_le times.start.micros header.now.start.micros && holds (λ stop. is_over_by header.now stop) (option_map (λ t. t.micros) times.end)) }
 {
-    start.micros <= header.start.micros && is_over_by(header, end)
+    times.start.micros <= header.start.micros && is_over_by(header, times.end)
 }

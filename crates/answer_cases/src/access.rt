@@ -1,7 +1,7 @@
-//! Who asks, and what a caller may have under restrictions and grants.
+//! Who asks, and what a caller has under restrictions, grants and withdrawals.
 use crate::names::{copy, number, text, told, word};
 use crate::shelves::{Shelves, choose_both, name_of};
-use access_digest::{Pass, may, who};
+use access_digest::{Pass, may, who, withdrawn};
 use case_lines::escaped;
 use dataselect::{DataQuery, Shelf, Sight, answer};
 use epoch_catalog::Catalog;
@@ -27,6 +27,21 @@ fn row(alloc: Global, pass: &Pass<'_>, shelves: &Shelves, n: u64) -> Result<Stri
     let row = shelf.row(n as usize);
     let may = may(pass.catalog, pass.user, row);
     Ok(format!(in alloc; "{may} {} {}", pass.sees(row), pass.restricted(row))?)
+}
+
+// Whether the row at a place is withdrawn.
+fn is_withdrawn(
+    alloc: Global,
+    catalog: &Catalog,
+    shelves: &Shelves,
+    n: u64,
+) -> Result<String, OutOfMemory> {
+    let shelf = &shelves.plain;
+    if n >= shelf.len() as u64 {
+        return told(alloc, "no row");
+    }
+    let is_so = withdrawn(catalog, shelf.row(n as usize));
+    Ok(format!(in alloc; "{is_so}")?)
 }
 
 // The bytes that a caller is answered with, so many at most.
@@ -78,6 +93,7 @@ pub fn given(
     match word(words, 0) {
         b"who" => asked(alloc, catalog, words),
         b"row" => row(alloc, &pass, shelves, number(words, 2)),
+        b"withdrawn" => is_withdrawn(alloc, catalog, shelves, number(words, 1)),
         b"answer" => body(alloc, &pass, shelves, queries, number(words, 2)),
         b"choose" => choose_both(alloc, shelves, &pass, queries),
         b"whole" => Ok(match name_of(words.get(1..).unwrap_or(&[])) {

@@ -1,6 +1,6 @@
 //! Catalogs of revision lines: what is kept, which rule is broken first, and what a catalog hands out.
 use crate::names::{number, told, word};
-use channel_globs::Code;
+use channel_globs::{Code, Nslc};
 use epoch_catalog::{Catalog, Family};
 use epoch_rules::CheckFault;
 use epochs::{Line, read_revision};
@@ -60,6 +60,7 @@ fn kind_of(line: &Line) -> &'static str {
         Line::Rst(_) => "RST",
         Line::Grt(_) => "GRT",
         Line::Usr(_) => "USR",
+        Line::Wdr(_) => "WDR",
         Line::Del(_) => "DEL",
     }
 }
@@ -89,6 +90,17 @@ fn user(alloc: Global, catalog: &Catalog, name: &[u8]) -> Result<String, OutOfMe
     })
 }
 
+// The withdrawals that are written for the channel which the words from the third on name, the location as it is written.
+fn withdrawals_on(words: &[Bytes]) -> Option<Family<'_>> {
+    let name = Nslc {
+        network: Code::of(word(words, 2))?,
+        station: Code::of(word(words, 3))?,
+        location: Code::blank(),
+        channel: Code::of(word(words, 5))?,
+    };
+    Some(Family::WithdrawalsOn(name, word(words, 4)))
+}
+
 // The family that the words from the second on name.
 fn family_of(words: &[Bytes]) -> Option<Family<'_>> {
     let first = Code::of(word(words, 2));
@@ -103,6 +115,8 @@ fn family_of(words: &[Bytes]) -> Option<Family<'_>> {
         b"restrictions-on" => Some(Family::RestrictionsOn(first?)),
         b"grants-of" => Some(Family::GrantsOf(word(words, 2))),
         b"grants-on" => Some(Family::GrantsOn(word(words, 2), second?)),
+        b"withdrawals" => Some(Family::Withdrawals),
+        b"withdrawals-on" => withdrawals_on(words),
         _ => None,
     }
 }
@@ -115,7 +129,7 @@ fn count_in(catalog: &Catalog, words: &[Bytes]) -> usize {
     }
 }
 
-// How many lines of a family are written with patterns of networks.
+// How many lines of a family are written with patterns: of networks, and of withdrawals of any code.
 fn wide_in(catalog: &Catalog, words: &[Bytes]) -> usize {
     match family_of(words) {
         Some(family) => catalog.wide(&family).len(),

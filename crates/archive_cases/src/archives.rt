@@ -26,6 +26,19 @@ fn outcome(alloc: Global, file: &[u8]) -> Result<String, OutOfMemory> {
     })
 }
 
+// The same of a replica's file.
+fn replica(alloc: Global, file: &[u8]) -> Result<String, OutOfMemory> {
+    let disk = MemoryDisk::new(alloc, copy(alloc, file), Many::new(alloc))?;
+    let count = match Archive::open(alloc, disk) {
+        Ok((archive, _entries, _admit)) => Ok(archive.count()),
+        Err((_disk, fault)) => Err(fault),
+    };
+    Ok(match count {
+        Ok(count) => format!(in alloc; "{count}")?,
+        Err(fault) => format!(in alloc; "{fault}")?,
+    })
+}
+
 // What each image opens as.
 fn outcomes(alloc: Global, drives: &Drives) -> Result<String, OutOfMemory> {
     let mut shown = String::new(alloc);
@@ -157,6 +170,8 @@ pub fn given(alloc: Global, drives: &mut Drives, words: &[Bytes]) -> Result<Stri
         b"file" => outcome(alloc, word(words, 1)),
         b"parts" => parts(alloc, word(words, 1), outcome),
         b"images" => outcomes(alloc, drives),
+        b"replica" => replica(alloc, word(words, 1)),
+        b"replica-parts" => parts(alloc, word(words, 1), replica),
         b"found" => found(alloc, drives, words),
         _ => open(alloc, drives, words),
     }

@@ -185,7 +185,7 @@ pub fn given(alloc: Global, held: &mut Held, words: &[Bytes]) -> Result<String, 
             Ok(format!(in alloc; "{number:?}")?)
         }
         b"sizes" => held.sizes(),
-        b"held" => held.row(number(words, 1)),
+        b"arrived" => held.row(number(words, 1)),
         _ => told(alloc, "no such call"),
     }
 }

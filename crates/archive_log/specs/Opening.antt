@@ -1,6 +1,7 @@
 -- Why an archive isn't opened.
 use Rattle.std.specs.Prelude.{◌≡◌, ◌≢◌, ◌⊎◌, ℕ, ◌+◌, ◌-◌, ◌<◌, ◌≤◌, List, [], length, take, Some, None, slice_get, false, Result, Ok, Err, ⊤}
-use Rattle.disk_model.specs.View.{DiskView, WhereTold, IsOnlyImage}
+use Rattle.disk_model.specs.Effects.{IsNotWritten}
+use Rattle.disk_model.specs.View.{DiskView, WhereTold, IsOnlyImage, file_of}
 use Rattle.archive_journal.specs.Frames.{no_journal, damaged_at, Holds, reading_of}
 use Rattle.archive_journal.specs.Journal.{gate_of}
 use Rattle.archive_journal.specs.declared.fault.ReadFault.{ReadFault}
@@ -76,8 +77,34 @@ from_recover recover.NotAJournal = NotAJournal
 from_recover (recover.Damaged at) = Damaged at
 from_recover recover.OutOfMemory = OutOfMemory
 
--- What a start gives that is done: an archive that runs, with nothing in hand, its entries, which are a history of at
--- least one entry, and what judges the next one.
+-- a file of a replica: without a byte it is one of no entry yet, and else it is a journal of a history, of no entry too
+abbrev pub IsReplicaOf : List ℕ → List Entry → Type 0
+IsReplicaOf file h = ((file ≡ []) × (h ≡ [])) ⊎ IsHistoryOf file h
+
+-- why the bytes of a file are no replica: there are bytes, and they are no journal; or the journal is damaged, or one of its
+-- payloads spells no entry that may come next
+abbrev pub ExplainsOpen : List ℕ → StartFault → Type 0
+ExplainsOpen file DiskFault = ⊤
+ExplainsOpen file NotAJournal = (1 ≤ length file) × (reading_of file ≡ no_journal)
+ExplainsOpen file (Damaged at) = (reading_of file ≡ damaged_at at) ⊎ ((bad : IsBadJournal file at) × (1 ≤ length bad.payloads))
+ExplainsOpen file OutOfMemory = ⊤
+
+-- a file with bytes is given no write and no cut
+abbrev pub OpensUnwritten : DiskView → DiskView → Type 0
+OpensUnwritten old new = 1 ≤ length (file_of old) → IsNotWritten old new
+
+-- What an opening gives that is done: an archive that runs, with nothing in hand, its entries, which are a history, and what
+-- judges the next one.
+pub record IsOpened {D : Type 0} (view : D → DiskView) (archive : Archived D) (entries : List Entry) (admit : Admit) : Type 0 where
+  pub history : IsHistory entries
+  pub admits : IsAdmit admit entries
+  pub counted : archive.count ≡ length entries
+  pub same : WhereTold (view archive.disk) (archive.history ≡ entries)
+  pub running : archive.stopped ≡ false
+  pub hand : archive.hand ≡ None
+  pub faults : archive.faults ≤ (view archive.disk).faults
+
+-- What a start gives that is done: the same, with one entry at least.
 pub record IsStarted {D : Type 0} (view : D → DiskView) (archive : Archived D) (entries : List Entry) (admit : Admit) : Type 0 where
   pub history : IsHistory entries
   pub some : 1 ≤ length entries

@@ -68,8 +68,5 @@ calm false stops Failed never cause some = absurd (omega (arith, never refl, som
 
 -- what an archive leaves by itself
 module _ {D : Type 0} (view : D → DiskView) (archive : Archived D) (hand_is : is_some archive.hand ≡ archive.stopped) (stands : Stands view archive) where
-  pub leaves_all : LeavesLeft (view archive.disk).may_leave archive.history (left_of None archive.hand)
-  leaves_all = leaves_left view archive archive.history hand_is stands None (sym (append-nil archive.history)) refl
-
   pub keeps_all : KeepsHistory archive.history (left_of None archive.hand)
   keeps_all = keeps_history view archive archive.history hand_is stands None stands.history.lawful refl (sym (append-nil archive.history)) refl

@@ -1,7 +1,7 @@
 -- What a state holds with one entry more, and that the next entry can be taken in.
 use Rattle.std.proofs.Common.{◌≡◌, inl, inr, ◌==◌, ◌&&◌, ◌∙◌, ℕ, ℤ, ◌+◌, ◌≤◌, ◌<◌, ◌^◌, Bool, true, false, List, [], ◌∷◌, ◌++◌, length, None, Some, pos, Result, Ok, Err, Option, refl, sym, ap, subst, arith, append_assoc, append-nil, length-append}
 use Rattle.std.specs.Prelude.{nat_le, nat_lt, is_none, MatchResult, OnOk, OnErr, ⊤}
-use Rattle.std.specs.List.{flat_map}
+use Rattle.std.specs.List.{AllByRecursion, flat_map}
 use Rattle.std.specs.Ordering.{int_eq}
 use Rattle.std.proofs.lemmas.Bool.{and_parts}
 use Rattle.std.proofs.lemmas.Bool.Decides.{nat_tests, Decides-int_eq}
@@ -24,20 +24,20 @@ use Rattle.epochs.specs.declared.fault.RevisionFault.{RevisionFault}
 use Rattle.epochs.specs.declared.fault.RevisionFault.TheVariants as revision
 use Rattle.archive_entry.specs.Batches.{Batch as Reading, rows_by, rows_told, batch_in, batch_answer, count_in, fault_in, AreBatchRows, batch_of, batch_rows}
 use Rattle.archive_entry.specs.Bodies.{revision_of, has_lines, is_body}
+use Rattle.archive_entry.specs.Spelling.{IsEntry}
 use Rattle.archive_entry.specs.declared.entry.Entry.{Entry}
 use Rattle.archive_entry.specs.declared.entry.Kind.{Kind}
 use Rattle.archive_entry.specs.declared.entry.Kind.TheVariants.{Batch, Revise}
 use Rattle.archive_entry.proofs.Readings.{batch_rows_are}
 use Rattle.archive_state.specs.declared.limits.Limits.{Limits}
 use Rattle.archive_state.specs.declared.verdict.Verdict.TheVariants.{BadRecord, FullRecords}
-use Rattle.archive_state.specs.History.{rows_by as entry_rows, rows_of, held_of, live_of, lines_in, records_by, records_of}
+use Rattle.archive_state.specs.History.{rows_by as entry_rows, rows_of, arrived_of, live_of, lines_in, records_by, records_of}
 use Rattle.archive_state.specs.Lawful.{full, is_first, founds, ha1_behind, is_founding, is_later, is_next, goes_on, is_lawful}
-use Rattle.archive_state.specs.States.{CanAbsorb}
 use Rattle.archive_state.specs.Verdicts.{command_of, is_kind, Totals, totals_of, within_bytes, batch_verdict, revise_verdict, body_verdict}
-use Rattle.archive_state.proofs.Accepts.{Accepts, chosen, accepted, later_parts, next_by, next_number}
+use Rattle.archive_state.proofs.Accepts.{Accepts, chosen, accepted, later_parts, next_by}
 use Rattle.archive_state.proofs.Founding.{founds_parts, founding_revision}
-use Rattle.archive_state.proofs.Growth.{records_more, live_by_batch, held_by_batch, held_by_revision, live_by_revision}
-use Rattle.archive_state.proofs.Room.{not_less, founding_kind, first_room, next_kept}
+use Rattle.archive_state.proofs.Growth.{records_more, live_by_batch, arrived_by_batch, arrived_by_revision, live_by_revision}
+use Rattle.archive_state.proofs.Room.{not_less, founding_kind, first_room}
 
 -- where a record is refused, there are no rows
 pub rows_none : (body : List ℕ) (number : ℕ) (moment : Moment) (at : ℕ) (fault : RecordFault) → AreOctets body → is_clock_moment moment ≡ true → IsFirstBad body at fault → batch_rows number moment body ≡ []
@@ -60,7 +60,7 @@ rows_by_few body (Some batch) number moment true is = told batch.0 (batch.1.righ
     told (Ok count) right = let as_many = (right number moment (since_1970 moment is) (before_2600 moment is)).2 in omega (arith, as_many)
 
 -- an entry has no more rows than records
-rows_few : (e : Entry) → length (rows_of e) ≤ records_by e.kind e.body
+pub rows_few : (e : Entry) → length (rows_of e) ≤ records_by e.kind e.body
 rows_few e = by e.kind
   where
     by : (k : Kind) → length (entry_rows k e) ≤ records_by k e.body
@@ -74,12 +74,12 @@ all_rows_few (e ∷ h) =
     let longer = length-append (rows_of e) (flat_map rows_of h) in
     omega (arith, sum, longer, rows_few e, all_rows_few h)
 
--- a history holds no more rows than it has records
-pub held_few : (h : List Entry) → length (held_of h) ≤ records_of h
-held_few h =
-    let held : length (with_rows [] (flat_map rows_of h)) ≤ 0 + length (flat_map rows_of h) = length_all [] (flat_map rows_of h) in
-    let same : length (with_rows [] (flat_map rows_of h)) ≡ length (held_of h) = ap length (held_all [] (flat_map rows_of h)) in
-    omega (arith, held, same, all_rows_few h)
+-- no more rows have arrived than there are records
+pub arrived_few : (h : List Entry) → length (arrived_of h) ≤ records_of h
+arrived_few h =
+    let arrived : length (with_rows [] (flat_map rows_of h)) ≤ 0 + length (flat_map rows_of h) = length_all [] (flat_map rows_of h) in
+    let same : length (with_rows [] (flat_map rows_of h)) ≡ length (arrived_of h) = ap length (held_all [] (flat_map rows_of h)) in
+    omega (arith, arrived, same, all_rows_few h)
 
 -- ---- the records of a lawful history
 
@@ -166,40 +166,37 @@ next_fits past e is =
       | inr later ↦ later_fits past e later
     ]
 
-pub next_absorbs : (past : List Entry) (e : Entry) → is_lawful past ≡ true → is_next past e ≡ true → CanAbsorb past e
-next_absorbs past e lawful is =
-    let fits = next_fits past e is in
-    let records = next_records past e is (lawful_records past lawful) in
-    record {
-      number_is = next_number past e is;
-      clock = fits.clock;
-      short = fits.short;
-      reads = fits.reads;
-      kept = next_kept past e is;
-      few = omega (arith, records, held_few past, rows_few e);
-    }
-
 -- ---- a state with one entry more
 
-pub absorbed_batch : (r : Result ⊤ OutOfMemory) (rows new : List Row) (live : List LineValues) (es more : List Entry) (e : Entry) → e.kind ≡ Batch → rows ≡ held_of es → live ≡ live_of es
+pub absorbed_batch : (r : Result ⊤ OutOfMemory) (rows new : List Row) (live : List LineValues) (es more : List Entry) (e : Entry) → e.kind ≡ Batch → rows ≡ arrived_of es → live ≡ live_of es
     → OnOk r (new ≡ with_rows rows (batch_rows e.number e.moment e.body)) → OnOk r (more ≡ es ++ e ∷ []) → OnErr r (new ≡ rows) → OnErr r (more ≡ es)
-    → (new ≡ held_of more) × (live ≡ live_of more)
-absorbed_batch (Ok done) rows new live es more e kind held lives grown longer same_rows same = (
-  grown ∙ ap (λ (xs : List Row). with_rows xs (batch_rows e.number e.moment e.body)) held ∙ sym (held_by_batch es e kind) ∙ ap held_of (sym longer),
+    → (new ≡ arrived_of more) × (live ≡ live_of more)
+absorbed_batch (Ok done) rows new live es more e kind arrived lives grown longer same_rows same = (
+  grown ∙ ap (λ (xs : List Row). with_rows xs (batch_rows e.number e.moment e.body)) arrived ∙ sym (arrived_by_batch es e kind) ∙ ap arrived_of (sym longer),
   lives ∙ sym (live_by_batch es e kind) ∙ ap live_of (sym longer),
 )
-absorbed_batch (Err fault) rows new live es more e kind held lives grown longer same_rows same = (same_rows ∙ held ∙ ap held_of (sym same), lives ∙ ap live_of (sym same))
+absorbed_batch (Err fault) rows new live es more e kind arrived lives grown longer same_rows same = (same_rows ∙ arrived ∙ ap arrived_of (sym same), lives ∙ ap live_of (sym same))
 
-pub absorbed_revision : (r : Result ⊤ OutOfMemory) (rows : List Row) (live new : List LineValues) (es more : List Entry) (e : Entry) → e.kind ≡ Revise → rows ≡ held_of es → live ≡ live_of es
+pub absorbed_revision : (r : Result ⊤ OutOfMemory) (rows : List Row) (live new : List LineValues) (es more : List Entry) (e : Entry) → e.kind ≡ Revise → rows ≡ arrived_of es → live ≡ live_of es
     → OnOk r (new ≡ live_lines (live ++ lines_in (revision_of e.body))) → OnOk r (more ≡ es ++ e ∷ []) → OnErr r (new ≡ live) → OnErr r (more ≡ es)
-    → (rows ≡ held_of more) × (new ≡ live_of more)
-absorbed_revision (Ok done) rows live new es more e kind held lives changed longer same_lines same = (
-  held ∙ sym (held_by_revision es e kind) ∙ ap held_of (sym longer),
+    → (rows ≡ arrived_of more) × (new ≡ live_of more)
+absorbed_revision (Ok done) rows live new es more e kind arrived lives changed longer same_lines same = (
+  arrived ∙ sym (arrived_by_revision es e kind) ∙ ap arrived_of (sym longer),
   changed ∙ ap (λ (ls : List LineValues). live_lines (ls ++ lines_in (revision_of e.body))) lives ∙ sym (live_by_revision es e kind) ∙ ap live_of (sym longer),
 )
-absorbed_revision (Err fault) rows live new es more e kind held lives changed longer same_lines same = (held ∙ ap held_of (sym same), same_lines ∙ lives ∙ ap live_of (sym same))
+absorbed_revision (Err fault) rows live new es more e kind arrived lives changed longer same_lines same = (arrived ∙ ap arrived_of (sym same), same_lines ∙ lives ∙ ap live_of (sym same))
 
 -- what is no batch is a revision
 pub other_kind : (k : Kind) → (k ≡ Batch → ⊥) → k ≡ Revise
 other_kind Batch h = absurd (h refl)
 other_kind Revise h = refl
+
+spelled_behind : (es : List Entry) (e : Entry) → AllByRecursion IsEntry es → IsEntry e → AllByRecursion IsEntry (es ++ e ∷ [])
+spelled_behind [] e all is = (is, tt)
+spelled_behind (x ∷ es) e all is = (all.0, spelled_behind es e all.1 is)
+
+-- each entry has a spelling still
+pub absorbed_spelled : (r : Result ⊤ OutOfMemory) (es more : List Entry) (e : Entry) → AllByRecursion IsEntry es → IsEntry e
+    → OnOk r (more ≡ es ++ e ∷ []) → OnErr r (more ≡ es) → AllByRecursion IsEntry more
+absorbed_spelled (Ok done) es more e all is longer same = subst (AllByRecursion IsEntry) (sym longer) (spelled_behind es e all is)
+absorbed_spelled (Err fault) es more e all is longer same = subst (AllByRecursion IsEntry) (sym same) all

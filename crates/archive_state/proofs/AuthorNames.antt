@@ -4,7 +4,7 @@ use Rattle.std.specs.Prelude.{MatchResult, find}
 use Rattle.std.specs.List.{AllByRecursion, flat_map}
 use Rattle.std.proofs.lemmas.Slice.Eq.{bytes_eq-Decides}
 use Rattle.list_laws.proofs.Keys.{all_in_order}
-use Rattle.epochs.specs.Fields.{Value, code, words, time, end, number, optional, patterns, roles, is_user_name}
+use Rattle.epochs.specs.Fields.{Value, code, words, time, end, number, optional, patterns, roles, entry_number, is_user_name}
 use Rattle.epochs.specs.Kinds.{Text}
 use Rattle.epochs.specs.Lines.{LineValues, line_values}
 use Rattle.epochs.specs.Revisions.{AreLines, IsRevision, IsRevisionFault}
@@ -12,7 +12,7 @@ use Rattle.epochs.specs.Spellable.{IsSpellable}
 use Rattle.epochs.specs.declared.fault.RevisionFault.{RevisionFault}
 use Rattle.epochs.specs.declared.kinds.Head.{Head}
 use Rattle.epochs.specs.declared.kinds.Head.TheVariants.{Says, Deletes}
-use Rattle.epochs.specs.declared.kinds.LineKind.TheVariants.{Net, Sta, Cha, Evt, Rst, Grt, Usr}
+use Rattle.epochs.specs.declared.kinds.LineKind.TheVariants.{Net, Sta, Cha, Evt, Rst, Grt, Usr, Wdr}
 use Rattle.epochs.proofs.SpelledValues.{line_is_spellable}
 use Rattle.epoch_rules.specs.Catalog.{is_user}
 use Rattle.epoch_rules.specs.KeyOrder.{line_cmp, key_parts_of}
@@ -86,12 +86,14 @@ user_named name (Says Usr) (end t ∷ values) can is = absurd can.values_are.0
 user_named name (Says Usr) (number n ∷ values) can is = absurd can.values_are.0
 user_named name (Says Usr) (optional n ∷ values) can is = absurd can.values_are.0
 user_named name (Says Usr) (roles r ∷ values) can is = absurd can.values_are.0
+user_named name (Says Usr) (entry_number n ∷ values) can is = absurd can.values_are.0
 user_named name (Says Net) values can is = absurd (let bad : false ≡ true = is in cc)
 user_named name (Says Sta) values can is = absurd (let bad : false ≡ true = is in cc)
 user_named name (Says Cha) values can is = absurd (let bad : false ≡ true = is in cc)
 user_named name (Says Evt) values can is = absurd (let bad : false ≡ true = is in cc)
 user_named name (Says Rst) values can is = absurd (let bad : false ≡ true = is in cc)
 user_named name (Says Grt) values can is = absurd (let bad : false ≡ true = is in cc)
+user_named name (Says Wdr) values can is = absurd (let bad : false ≡ true = is in cc)
 user_named name (Deletes kind) values can is = absurd (let bad : false ≡ true = is in cc)
 
 no_role : (kind : Kind) → allows kind None ≡ true → ⊥

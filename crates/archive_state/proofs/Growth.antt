@@ -19,7 +19,7 @@ use Rattle.archive_entry.specs.Bodies.{revision_of}
 use Rattle.archive_entry.specs.declared.entry.Entry.{Entry}
 use Rattle.archive_entry.specs.declared.entry.Kind.{Kind}
 use Rattle.archive_entry.specs.declared.entry.Kind.TheVariants.{Batch, Revise}
-use Rattle.archive_state.specs.History.{lines_in, lines_by, lines_of, live_of, rows_by, rows_of, held_of, records_by, records_of, bytes_of, is_by, earlier_of, last_seq}
+use Rattle.archive_state.specs.History.{lines_in, lines_by, lines_of, live_of, rows_by, rows_of, arrived_of, records_by, records_of, bytes_of, is_by, earlier_of, last_seq}
 use Rattle.archive_state.specs.Lawful.{is_next, goes_on, is_lawful, IsLawful}
 
 pub live_more : (h : List Entry) (e : Entry) → live_of (h ++ e ∷ []) ≡ live_lines (live_of h ++ lines_of e)
@@ -31,8 +31,8 @@ live_more h e =
 pub none_more : (live : List LineValues) → IsCatalog live → live ≡ live_lines (live ++ [])
 none_more live is = sym (ap live_lines (append-nil live) ∙ live_again live is.rises is.states)
 
-pub held_more : (h : List Entry) (e : Entry) → held_of (h ++ e ∷ []) ≡ with_rows (held_of h) (rows_of e)
-held_more h e =
+pub arrived_more : (h : List Entry) (e : Entry) → arrived_of (h ++ e ∷ []) ≡ with_rows (arrived_of h) (rows_of e)
+arrived_more h e =
     ap held_rows (flat_map-append rows_of h (e ∷ []) ∙ ap (λ (xs : List Row). flat_map rows_of h ++ xs) (append-nil (rows_of e)))
     ∙ sym (held_all (flat_map rows_of h) (rows_of e))
 
@@ -44,12 +44,12 @@ live_by_batch h e kind =
     ∙ ap (λ (k : Kind). flat_map lines_of h ++ (lines_by k e.body ++ [])) kind
     ∙ append-nil (flat_map lines_of h))
 
-pub held_by_batch : (h : List Entry) (e : Entry) → e.kind ≡ Batch → held_of (h ++ e ∷ []) ≡ with_rows (held_of h) (batch_rows e.number e.moment e.body)
-held_by_batch h e kind = held_more h e ∙ ap (λ (k : Kind). with_rows (held_of h) (rows_by k e)) kind
+pub arrived_by_batch : (h : List Entry) (e : Entry) → e.kind ≡ Batch → arrived_of (h ++ e ∷ []) ≡ with_rows (arrived_of h) (batch_rows e.number e.moment e.body)
+arrived_by_batch h e kind = arrived_more h e ∙ ap (λ (k : Kind). with_rows (arrived_of h) (rows_by k e)) kind
 
 -- a revision leaves the rows, and changes the live lines
-pub held_by_revision : (h : List Entry) (e : Entry) → e.kind ≡ Revise → held_of (h ++ e ∷ []) ≡ held_of h
-held_by_revision h e kind = held_more h e ∙ ap (λ (k : Kind). with_rows (held_of h) (rows_by k e)) kind
+pub arrived_by_revision : (h : List Entry) (e : Entry) → e.kind ≡ Revise → arrived_of (h ++ e ∷ []) ≡ arrived_of h
+arrived_by_revision h e kind = arrived_more h e ∙ ap (λ (k : Kind). with_rows (arrived_of h) (rows_by k e)) kind
 
 pub live_by_revision : (h : List Entry) (e : Entry) → e.kind ≡ Revise → live_of (h ++ e ∷ []) ≡ live_lines (live_of h ++ lines_in (revision_of e.body))
 live_by_revision h e kind = live_more h e ∙ ap (λ (k : Kind). live_lines (live_of h ++ lines_by k e.body)) kind

@@ -7,6 +7,7 @@ pub mod Examples
 pub mod Founding
 pub mod FoundingEntry
 pub mod Growth
+pub mod HeldRows
 pub mod NextEntry
 pub mod Numbers
 pub mod Once

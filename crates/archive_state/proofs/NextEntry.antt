@@ -14,13 +14,14 @@ use Rattle.archive_entry.specs.Spelling.{IsEntry}
 use Rattle.archive_entry.specs.declared.entry.Entry.{Entry}
 use Rattle.archive_state.specs.History.{bytes_of}
 use Rattle.archive_state.specs.Lawful.{full, is_founding, is_later, is_next, goes_on, is_lawful}
+use Rattle.archive_state.specs.States.{CanAbsorb}
 use Rattle.archive_state.specs.Verdicts.{command_of}
-use Rattle.archive_state.proofs.Absorbs.{next_fits}
+use Rattle.archive_state.proofs.Absorbs.{arrived_few, lawful_records, next_fits, next_records, rows_few}
 use Rattle.archive_state.proofs.Accepts.{accepted, first_seq, later_parts, next_by, next_number}
 use Rattle.archive_state.proofs.AuthorNames.{author_named}
 use Rattle.archive_state.proofs.Founding.{founds_parts}
 use Rattle.archive_state.proofs.Growth.{bytes_more}
-use Rattle.archive_state.proofs.Room.{founding_founds, first_room, next_has_room}
+use Rattle.archive_state.proofs.Room.{founding_founds, first_room, next_has_room, next_kept}
 
 -- ---- a lawful history has few entries
 
@@ -92,4 +93,15 @@ next_is_entry past e lawful is =
       some = room.0;
       within = spelled.within;
       reads = fits.reads;
+    }
+
+pub next_absorbs : (past : List Entry) (e : Entry) → is_lawful past ≡ true → is_next past e ≡ true → CanAbsorb past e
+next_absorbs past e lawful is =
+    let records = next_records past e is (lawful_records past lawful) in
+    record {
+      number_is = next_number past e is;
+      clock = (next_fits past e is).clock;
+      spelled = next_is_entry past e lawful is;
+      kept = next_kept past e is;
+      few = omega (arith, records, arrived_few past, rows_few e);
     }

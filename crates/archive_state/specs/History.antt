@@ -1,5 +1,5 @@
 -- What a history holds: a list of entries, in the order of their numbers.
-use Rattle.std.specs.Prelude.{ℕ, ◌==◌, ◌&&◌, Bool, false, List, [], ◌∷◌, length, Option, None, Some, Result, Ok, Err, max, find, if◌then◌else◌}
+use Rattle.std.specs.Prelude.{ℕ, ◌==◌, ◌&&◌, Bool, false, not, List, [], ◌∷◌, length, filter, Option, None, Some, Result, Ok, Err, max, find, if◌then◌else◌}
 use Rattle.std.specs.List.{flat_map, fold, sum_by}
 use Rattle.std.specs.Str.{bytes_eq}
 use Rattle.mseed_header.specs.declared.row.Row.{Row}
@@ -11,6 +11,7 @@ use Rattle.epochs.specs.declared.fault.RevisionFault.{RevisionFault}
 use Rattle.epochs.specs.declared.parts.Roles.{Roles}
 use Rattle.epoch_rules.specs.Catalog.{is_user}
 use Rattle.epoch_rules.specs.LiveLines.{live_lines}
+use Rattle.access_digest.specs.Access.{is_withdrawn}
 use Rattle.archive_entry.specs.Batches.{batch_rows, record_count}
 use Rattle.archive_entry.specs.Bodies.{revision_of}
 use Rattle.archive_entry.specs.declared.entry.Entry.{Entry}
@@ -41,9 +42,13 @@ rows_by Revise e = []
 abbrev pub rows_of : Entry → List Row
 rows_of e = rows_by e.kind e
 
--- the rows that are held: those of all batches in order, without those whose bytes equal an earlier row's
+-- the rows that have arrived: those of all batches in order, without those whose bytes equal an earlier row's
+abbrev pub arrived_of : List Entry → List Row
+arrived_of h = held_rows (flat_map rows_of h)
+
+-- the rows that are held: those that have arrived, without those that a live withdrawal covers
 abbrev pub held_of : List Entry → List Row
-held_of h = held_rows (flat_map rows_of h)
+held_of h = filter (λ row. not (is_withdrawn (live_of h) row)) (arrived_of h)
 
 -- how many records all batches have
 abbrev pub records_by : Kind → List ℕ → ℕ

@@ -1,5 +1,6 @@
 pub mod Admits
 pub mod Authors
+pub mod HeldLaw
 pub mod History
 pub mod Lawful
 pub mod Limits

@@ -19,8 +19,8 @@ use exact_time::{Many, OutOfMemory};
 use mseed_header::{RecordFault, count_records};
 use std::alloc::Global;
 
-// The roles of a live user.
-fn roles_of(catalog: &Catalog, author: &[u8]) -> Option<Roles>
+/// The roles of a live user; None where there is no user of that name.
+pub fn roles_of(catalog: &Catalog, author: &[u8]) -> Option<Roles>
     ensures { result ≡ roles_in (find (is_user author.now) catalog.now) }
 {
     match catalog.user(author) {

@@ -1,13 +1,19 @@
 //! What holds of every verdict and of every lawful history.
-ghost use Rattle.std.specs.Prelude.{◌≡◌, ◌≤◌, ◌+◌, ◌++◌, ◌&&◌, ◌∷◌, [], ℕ, List, Some, length, take, true, ◌↔◌, if◌then◌else◌};
-ghost use Rattle.std.specs.List.{slice_get, list_all};
+ghost use Rattle.std.specs.Prelude.{◌≡◌, ◌≤◌, ◌+◌, ◌++◌, ◌&&◌, ◌∷◌, [], ℕ, List, Some, length, map, take, true, false, ◌↔◌, Contains, if◌then◌else◌};
+ghost use Rattle.std.specs.List.{slice_get, list_all, list_any};
 ghost use Rattle.std.specs.Str.{bytes_eq};
 ghost use Rattle.mseed_header.specs.Octets.{AreOctets};
 ghost use Rattle.epochs.specs.Fields.{is_ha1, is_user_name};
+ghost use Rattle.epochs.specs.declared.kinds.LineKind.TheVariants.{Wdr};
+ghost use Rattle.epochs.specs.declared.line.Line.{Line};
 ghost use Rattle.epochs.specs.Kinds.{Text};
+ghost use Rattle.epochs.specs.Views.{values_of_line};
+ghost use Rattle.epoch_rules.specs.Rules.{is_line_of};
+ghost use Rattle.mseed_header.specs.declared.row.Row.{Row};
 ghost use Rattle.archive_entry.specs.Spelling.{IsEntry};
 ghost use Rattle.archive_entry.specs.declared.entry.Entry.{Entry};
-ghost use Rattle.archive_state.specs.History.{live_of, may_post};
+ghost use Rattle.archive_state.specs.HeldLaw.{IsHeld, StandAmong};
+ghost use Rattle.archive_state.specs.History.{arrived_of, held_of, live_of, may_post};
 ghost use Rattle.archive_state.specs.Lawful.{founding_entry, is_accept, is_lawful, is_next};
 ghost use Rattle.archive_state.specs.Sendings.{Sending, can_be_sent, after_all};
 ghost use Rattle.archive_state.specs.States.{CanAbsorb};
@@ -75,4 +81,18 @@ pub fn the_next_entry_has_a_spelling()
 pub fn verdicts_in_the_subjects_words()
     ensures says { (h : List Entry) (limits : Limits) (c : Command) → AreOctets c.body → Says h limits c (judged_of h limits c) }
     ensures only { (h : List Entry) (limits : Limits) (c : Command) → AreOctets c.body → (v : Verdict) → Says h limits c v → judged_of h limits c ≡ v }
+{}
+
+/// A row is held exactly where it has arrived and each live withdrawal spares it: some code isn't matched, its start is
+/// later than the row's first sample, its end is earlier than the row's last sample, or the row's entry is a later one
+/// than the last that it reaches.
+pub fn held_in_the_subjects_words()
+    ensures { (h : List Entry) (lines : List Line) (row : Row) → map values_of_line lines ≡ live_of h → Contains (held_of h) row ↔ IsHeld h lines row }
+{}
+
+/// The rows that are held are some of those that have arrived, as they arrived and in the same order. Where no live line
+/// is a withdrawal, they are all of them.
+pub fn held_rows_have_arrived()
+    ensures order { (h : List Entry) → StandAmong (held_of h) (arrived_of h) }
+    ensures all { (h : List Entry) → list_any (is_line_of Wdr) (live_of h) ≡ false → held_of h ≡ arrived_of h }
 {}

@@ -1,12 +1,14 @@
 //! A history with what it holds.
 ghost use Rattle.std.specs.Prelude.{◌≡◌, ◌<◌, ◌≤◌, ◌+◌, ◌^◌, ◌++◌, [], ◌∷◌, true, length, vec_len, vec_capacity, IfOk, OnOk, OnErr};
+ghost use Rattle.std.specs.List.{AllByRecursion};
 ghost use Rattle.exact_time.specs.Clock.{is_clock_moment};
 ghost use Rattle.dataselect.specs.Rows.{with_rows};
 ghost use Rattle.epoch_rules.specs.Kept.{AreKept};
 ghost use Rattle.epoch_rules.specs.LiveLines.{live_lines};
 ghost use Rattle.archive_entry.specs.Batches.{batch_rows};
 ghost use Rattle.archive_entry.specs.Bodies.{revision_of};
-ghost use Rattle.archive_state.specs.History.{held_of, lines_in, live_of};
+ghost use Rattle.archive_entry.specs.Spelling.{IsEntry};
+ghost use Rattle.archive_state.specs.History.{arrived_of, lines_in, live_of};
 ghost use Rattle.archive_state.specs.Lawful.{IsLawful};
 ghost use Rattle.archive_state.specs.States.{CanAbsorb};
 
@@ -20,8 +22,8 @@ use std::alloc::Global;
 use std::marker::Model;
 use time_index::IndexedShelf;
 
-/// The entries of a history, a shelf with the rows that their batches hold, and the catalog of their live lines. Seen
-/// as the list of the entries.
+/// The entries of a history, a shelf with the rows that have arrived with their batches, and the catalog of their live
+/// lines. Seen as the list of the entries.
 #[derive(Drop)]
 pub struct State {
     alloc: Global,
@@ -32,14 +34,17 @@ pub struct State {
 
 impl Model for State {
     ghost use Rattle.std.specs.Prelude.{◌≡◌, List};
+    ghost use Rattle.std.specs.List.{AllByRecursion};
+    ghost use Rattle.archive_entry.specs.Spelling.{IsEntry};
     ghost use Rattle.archive_entry.specs.declared.entry.Entry.{Entry};
-    ghost use Rattle.archive_state.specs.History.{held_of, live_of};
+    ghost use Rattle.archive_state.specs.History.{arrived_of, live_of};
 
     ghost Value = { List Entry };
 
     ghost view = { λ s. s.entries.items };
 
-    ghost invariant = { λ s. (⟦<IndexedShelf as Shelf>⟧.rows s.shelf ≡ held_of s.entries.items) × (s.catalog ≡ live_of s.entries.items) };
+    ghost invariant = { λ s. (⟦<IndexedShelf as Shelf>⟧.rows s.shelf ≡ arrived_of s.entries.items) × (s.catalog ≡ live_of s.entries.items)
+        × AllByRecursion IsEntry s.entries.items };
 }
 
 fn copy_of(alloc: Global, entry: &Entry) -> Result<Entry, OutOfMemory>
@@ -142,10 +147,10 @@ impl State {
         Ok(state)
     }
 
-    /// The rows that the entries hold: those of all batches in order, without those whose bytes equal an earlier
-    /// row's.
+    /// The rows that have arrived with the entries: those of all batches in order, without those whose bytes equal an
+    /// earlier row's. Those that are held are these without the withdrawn ones.
     pub fn shelf(&self) -> &IndexedShelf
-        ensures { ⟦<IndexedShelf as Shelf>⟧.rows result.now ≡ held_of self.now }
+        ensures { ⟦<IndexedShelf as Shelf>⟧.rows result.now ≡ arrived_of self.now }
     {
         &self.shelf
     }
@@ -157,9 +162,10 @@ impl State {
         &self.catalog
     }
 
-    /// The entries, in order of their numbers.
+    /// The entries, in order of their numbers; each has a spelling.
     pub fn entries(&self) -> &[Entry]
-        ensures { result.now ≡ self.now }
+        ensures entries { result.now ≡ self.now }
+        ensures spelled { AllByRecursion IsEntry self.now }
     {
         self.entries.as_slice()
     }

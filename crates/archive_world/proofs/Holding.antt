@@ -9,7 +9,7 @@ use Rattle.archive_entry.specs.declared.entry.Entry.{Entry}
 use Rattle.archive_history.proofs.Beginnings.{whole_beginning}
 use Rattle.archive_log.specs.Histories.{Recovers, RecoversWithOrWithout}
 use Rattle.archive_post.specs.Leaving.{LeavesLeft, left_of}
-use Rattle.archive_post.specs.Waiting.{committed}
+use Rattle.archive_post.specs.Waiting.{are_both, committed}
 use Rattle.archive_state.specs.Lawful.{IsLawful}
 use Rattle.archive_world.specs.Held.{Held, held, Callers, world_of, IsLeftOf, IsLeftWithin, is_held, with_callers, Goes, GoesBy, LeavesHeld}
 use Rattle.archive_world.specs.Submitting.{show_all}
@@ -50,6 +50,38 @@ left_held view h shown (Some e) hand left told c image is = left_alone (world_of
 left_held view h shown None (Some e) left told c image is =
     left_either (world_of (held (h ++ []) shown (Some e)) c) e image refl (subst (λ (l : List Entry). RecoversWithOrWithout l e image) (sym (append-nil h)) (left told image is))
 left_held view h shown None None left told c image is = left_alone (world_of (held (h ++ []) shown None) c) image (subst (λ (l : List Entry). Recovers l image) (sym (append-nil h)) (left told image is))
+
+-- an image of what a crash leaves is one of the journal, with or without what is in hand
+alone_left : (w : World) (file : List ℕ) → w.hand ≡ None → IsLeftOf w file → Recovers w.journal file
+alone_left w file none x =
+    elim x.joins as (λ b. Recovers (after w (crashes b)).journal file → Recovers w.journal file) [
+      | true ↦ λ is. subst (λ (l : List Entry). Recovers l file) (ap (λ (o : Option Entry). w.journal ++ option_to_list o) none ∙ append-nil w.journal) is
+      | false ↦ λ is. is
+    ] x.journal
+
+either_left : (w : World) (e : Entry) (file : List ℕ) → w.hand ≡ Some e → IsLeftOf w file → RecoversWithOrWithout w.journal e file
+either_left w e file hand x =
+    elim x.joins as (λ b. Recovers (after w (crashes b)).journal file → RecoversWithOrWithout w.journal e file) [
+      | true ↦ λ is. inr (subst (λ (o : Option Entry). Recovers (w.journal ++ option_to_list o) file) hand is)
+      | false ↦ λ is. inl is
+    ] x.journal
+
+nobody : Callers
+nobody = record { seen = λ c. 0; shown = 0; acknowledged = [] }
+
+-- so what lies under the lock says what is left
+pub held_left : (view : DiskView) (h shown : List Entry) (waiting hand : Option Entry) → are_both waiting hand ≡ false
+    → LeavesHeld view (held (committed h waiting) shown hand) → WhereTold view (LeavesLeft view.may_leave h (left_of waiting hand))
+held_left view h shown (Some e) (Some d) apart left told = absurd (true≢false apart)
+held_left view h shown (Some e) None apart left told =
+    λ image is. alone_left (world_of (held (h ++ e ∷ []) shown None) nobody) image refl (left told nobody image is)
+held_left view h shown None (Some e) apart left told =
+    λ image is.
+    subst (λ (l : List Entry). RecoversWithOrWithout l e image) (append-nil h)
+    (either_left (world_of (held (h ++ []) shown (Some e)) nobody) e image refl (left told nobody image is))
+held_left view h shown None None apart left told =
+    λ image is.
+    subst (λ (l : List Entry). Recovers l image) (append-nil h) (alone_left (world_of (held (h ++ []) shown None) nobody) image refl (left told nobody image is))
 
 -- what is published plays no part in it
 pub same_left : (view : DiskView) (h shown now : List Entry) (hand : Option Entry) → LeavesHeld view (held h shown hand) → LeavesHeld view (held h now hand)

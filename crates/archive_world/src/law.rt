@@ -1,13 +1,15 @@
 //! What holds of every world and every list of its events.
-ghost use Rattle.std.specs.Prelude.{◌≡◌, ℕ, true, List, ◌++◌, Option, Result};
+ghost use Rattle.std.specs.Prelude.{◌≡◌, ◌↔◌, ℕ, true, false, List, ◌++◌, Option, Result};
 ghost use Rattle.std.specs.List.{AllByRecursion, list_all};
 ghost use mathlib.Core.List.{IsPrefix};
-ghost use Rattle.disk_model.specs.View.{is_told};
+ghost use Rattle.disk_model.specs.View.{WhereTold, is_told};
 ghost use Rattle.archive_entry.specs.declared.entry.Entry.{Entry};
 ghost use Rattle.archive_log.specs.Histories.{IsHistoryOf};
+ghost use Rattle.archive_post.specs.Leaving.{LeavesLeft, left_of};
+ghost use Rattle.archive_post.specs.Waiting.{are_both, committed};
 ghost use Rattle.desk_words.specs.declared.asking.Submitted.{Submitted};
 ghost use Rattle.desk_words.specs.declared.asking.SubmitFault.{SubmitFault};
-ghost use Rattle.archive_world.specs.Held.{Held, Callers, with_callers, is_held, GoesBy, IsLeftOf, IsOpened};
+ghost use Rattle.archive_world.specs.Held.{Held, held, Callers, with_callers, is_held, GoesBy, IsLeftOf, IsOpened, LeavesHeld};
 ghost use Rattle.archive_world.specs.Submitting.{IsMade};
 ghost use Rattle.archive_world.specs.World.{World, Event, Starts, May, Allowed, after, run, IsWorld, StandsAt, StandOnce, shown_in};
 
@@ -39,6 +41,14 @@ pub fn calls_follow_each_other<D: Disk>()
 /// Of a file that a crash may leave: the one history with which it opens is that of the world after the crash.
 pub fn what_a_crash_leaves_opens()
     ensures { (w : World) (file : List ℕ) (h : List Entry) → IsWorld w → IsLeftOf w file → IsHistoryOf file h → IsOpened w h }
+{}
+
+/// What lies under the lock says what a crash leaves: a journal of what was seen; or of this and the entry that waits; or
+/// of this with or without the entry in hand. So what the rows of a session and of a service say of crashes follows from
+/// the events of their calls.
+pub fn what_lies_under_the_lock_is_left<D: Disk>()
+    ensures { (disk : D) (seen shown : List Entry) (waiting hand : Option Entry) → are_both waiting hand ≡ false
+        → LeavesHeld (D.view disk) (held (committed seen waiting) shown hand) ↔ WhereTold (D.view disk) (LeavesLeft (D.view disk).may_leave seen (left_of waiting hand)) }
 {}
 
 /// What happens under the lock takes no notice of what callers have. So what callers do in between, which changes only

@@ -15,6 +15,6 @@ mod worked;
 
 pub use law::{
     calls_follow_each_other, each_event_keeps_the_history, one_history, what_a_crash_leaves_opens,
-    what_happens_under_the_lock_ignores_callers,
+    what_happens_under_the_lock_ignores_callers, what_lies_under_the_lock_is_left,
 };
 pub use worked::{each_event_does_its_part, no_event_comes_too_early};

@@ -54,8 +54,8 @@ module _ {D : Type 0} (w : FetchWords) (before after : World D) where
   rose_at : (outcome : Result (Unit {0}) FetchStop) (row : IsFetch w before after outcome) → Rose row.old.faults row.new.faults → OneRose before.ports after.ports
   rose_at outcome row rose = subst (λ a. OneRose a after.ports) (sym row.had) (subst (λ b. OneRose (row.old ∷ row.others) b) (sym row.has) (inl rose))
 
-  spent_at : (outcome : Result (Unit {0}) FetchStop) (row : IsFetch w before after outcome) → IsSpent row.new.left → HasNoLink after.ports
-  spent_at outcome row spent = subst HasNoLink (sym row.has) spent
+  spent_at : (outcome : Result (Unit {0}) FetchStop) (row : IsFetch w before after outcome) → IsSpent row.new.left → HasNoLink (Some (fetch w)) after.ports
+  spent_at outcome row spent = subst (λ b. HasNoLink (Some (fetch w)) b) (sym row.has) spent
 
   pub fetch_others : (ending : Result (Unit {0}) Stop) → FetchEnding w before after ending → KeepsOthers before.ports after.ports
   fetch_others ending it =

@@ -1,4 +1,5 @@
 pub mod Answering
+pub mod CoverageRows
 pub mod DrillRows
 pub mod Examples
 pub mod FetchRows

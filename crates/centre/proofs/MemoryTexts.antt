@@ -3,7 +3,7 @@ use Rattle.std.proofs.Common.{◌≡◌, ◌⊎◌, inl, inr, Result, Ok, Err, r
 use Rattle.std.specs.Prelude.{⊤}
 use Rattle.centre.specs.Ends.{EndsBy, ending_by}
 use Rattle.centre.specs.Table.{ToldFor}
-use Rattle.centre.specs.declared.ending.Refusal.TheVariants.{UnknownCommand, Value, Order, Record, NoData, TooLarge, InputTooLong, NotEmpty, NotAJournal, Damaged, RequestCut, Peer, BadReply, Lost, Moved, Requests}
+use Rattle.centre.specs.declared.ending.Refusal.TheVariants.{UnknownCommand, Value, Order, Record, NoData, TooLarge, TooManyLines, InputTooLong, NotEmpty, NotAJournal, Damaged, RequestCut, Peer, BadReply, Lost, Moved, Requests}
 use Rattle.centre.specs.declared.ending.Stop.{Stop}
 use Rattle.centre.specs.declared.ending.Stop.TheVariants.{Refused, ReadFault, WriteFault, DiskFault, PortFault, NoLink, OutOfMemory}
 
@@ -11,6 +11,7 @@ use Rattle.centre.specs.declared.ending.Stop.TheVariants.{Refused, ReadFault, Wr
 abbrev pub MayRunOut : Stop → Type 0
 MayRunOut (Refused (Record at fault)) = ⊤
 MayRunOut (Refused (TooLarge bytes limit)) = ⊤
+MayRunOut (Refused (TooManyLines lines limit)) = ⊤
 MayRunOut (Refused (Damaged at)) = ⊤
 MayRunOut (Refused (Peer status)) = ⊤
 MayRunOut (Refused (Moved a b)) = ⊤
@@ -26,6 +27,7 @@ by_numbers stop told may (inr none) = inr (may, none)
 tells : (stop told : Stop) → ToldFor stop told → Tells stop told
 tells (Refused (Record at fault)) told e = by_numbers (Refused (Record at fault)) told tt e
 tells (Refused (TooLarge bytes limit)) told e = by_numbers (Refused (TooLarge bytes limit)) told tt e
+tells (Refused (TooManyLines lines limit)) told e = by_numbers (Refused (TooManyLines lines limit)) told tt e
 tells (Refused (Damaged at)) told e = by_numbers (Refused (Damaged at)) told tt e
 tells (Refused (Peer status)) told e = by_numbers (Refused (Peer status)) told tt e
 tells (Refused (Moved a b)) told e = by_numbers (Refused (Moved a b)) told tt e

@@ -3,9 +3,10 @@ use Rattle.std.proofs.Common.{◌≡◌, ◌≢◌, ◌⊎◌, inl, inr, ℕ, Li
 use Rattle.centre.specs.declared.ending.Refusal.{Refusal}
 use Rattle.centre.specs.declared.ending.Refusal.TheVariants.{NotEmpty}
 use Rattle.centre.specs.Answers.{IsAnswer}
-use Rattle.command_words.specs.Commands.{Command, select, init, talk, serve, drill, fetch, show}
+use Rattle.command_words.specs.Commands.{Command, select, init, talk, serve, drill, fetch, coverage, show}
 use Rattle.centre.specs.Drills.{drill_text}
 use Rattle.centre.specs.Given.{Given}
+use Rattle.centre.proofs.CoverageRows.{one_covering}
 use Rattle.centre.proofs.FetchRows.{one_fetching}
 use Rattle.centre.proofs.OneService.{one_service}
 use Rattle.centre.proofs.OneTalk.{one_talk}
@@ -28,3 +29,4 @@ one_answer (Some (talk w)) given a b h k = one_talk given.file given.input a b h
 one_answer (Some (serve w)) given a b h k = one_service given.file a b h k
 one_answer (Some (drill w)) given a b h k = by_file given.file (drill_text w.records) a b h k
 one_answer (Some (fetch w)) given a b h k = one_fetching w given.heard a b h k
+one_answer (Some (coverage w)) given a b h k = one_covering w given.file a b h k

@@ -3,7 +3,7 @@ use Rattle.std.proofs.Common.{◌≡◌, ◌⊎◌, ◌∙◌, inl, inr, ℕ, Li
 use Rattle.disk_model.specs.View.{DiskView}
 use Rattle.http_digest.specs.declared.secret.Secret.{Secret}
 use Rattle.centre_select.specs.Table.{Streams}
-use Rattle.command_words.specs.Commands.{Command, select, init, talk, serve, drill, fetch, show}
+use Rattle.command_words.specs.Commands.{Command, select, init, talk, serve, drill, fetch, coverage, show}
 use Rattle.centre.specs.Given.{World, Given, AreGiven}
 use Rattle.centre.specs.Settled.{AsksNoClock, KeepsPorts, KeepsUnused}
 use Rattle.centre.specs.Shown.{text_shown}
@@ -14,6 +14,7 @@ use Rattle.centre.specs.declared.ending.Stop.{Stop}
 use Rattle.centre.specs.declared.ending.Stop.TheVariants.{Refused, WriteFault, OutOfMemory}
 use Rattle.command_words.specs.declared.name.Shown.{Shown}
 use Rattle.centre.proofs.Answering.{Ended, ended_same, gives, refuses, six, seventy}
+use Rattle.centre.proofs.CoverageRows.{told_coverage, coverage_says, coverage_ended}
 use Rattle.centre.proofs.DrillRows.{told_drill, drill_says, drill_ended}
 use Rattle.centre.proofs.FetchRows.{told_fetch, fetch_says, fetch_ended, fetch_others}
 use Rattle.centre.proofs.Files.{nothing_given}
@@ -72,6 +73,7 @@ module _ {D : Type 0} (view : D → DiskView) (secret : Secret) where
   says (Some (serve w)) before after ending row = serve_says view secret w before after ending row
   says (Some (drill w)) before after ending row = drill_says view w before after ending row
   says (Some (fetch w)) before after ending row = fetch_says view w before after ending row
+  says (Some (coverage w)) before after ending row = coverage_says view w before after ending row
 
   pub ended : (command : Option Command) (given : Given) (before after : World D) (ending : Result (Unit {0}) Stop) → AreGiven view command before after given
       → IsStarved before after ending ⊎ IsEnding view secret command before after ending → Ended command given ending
@@ -84,6 +86,7 @@ module _ {D : Type 0} (view : D → DiskView) (secret : Secret) where
   ended (Some (serve w)) given before after ending e (inr row) = serve_ended view secret w given before after e ending row
   ended (Some (drill w)) given before after ending e (inr row) = drill_ended view w given before after e ending row
   ended (Some (fetch w)) given before after ending e (inr row) = fetch_ended view w given before after e ending row
+  ended (Some (coverage w)) given before after ending e (inr row) = coverage_ended view w given before after e ending row
 
   told_command : (command : Option Command) (before after : World D) (stop told : Stop) → IsEnding view secret command before after (Err stop) → ToldFor stop told → IsEnding view secret command before after (Err told)
   told_command None before after stop told row e = told_unknown before after stop told row e
@@ -94,6 +97,7 @@ module _ {D : Type 0} (view : D → DiskView) (secret : Secret) where
   told_command (Some (serve w)) before after stop told row e = told_serve view secret w before after stop told row e
   told_command (Some (drill w)) before after stop told row e = told_drill view w before after stop told row e
   told_command (Some (fetch w)) before after stop told row e = told_fetch w before after stop told row e
+  told_command (Some (coverage w)) before after stop told row e = told_coverage view w before after stop told row e
 
   told_starved : (before after : World D) (stop told : Stop) → IsStarved before after (Err stop) → ToldFor stop told → IsStarved before after (Err told)
   told_starved before after stop told row e =
@@ -118,6 +122,7 @@ module _ {D : Type 0} (view : D → DiskView) (secret : Secret) where
   unused_row (Some (serve w)) before after ending row = tt
   unused_row (Some (drill w)) before after ending row = tt
   unused_row (Some (fetch w)) before after ending row = λ i. (row.row.rest i).disk
+  unused_row (Some (coverage w)) before after ending row = tt
 
   pub clock_row : (command : Option Command) (before after : World D) (ending : Result (Unit {0}) Stop) → IsEnding view secret command before after ending → AsksNoClock command before.given after.given
   clock_row None before after ending row = λ i. (row.1 i).given
@@ -128,6 +133,7 @@ module _ {D : Type 0} (view : D → DiskView) (secret : Secret) where
   clock_row (Some (serve w)) before after ending row = λ i. (row.row.others i).given
   clock_row (Some (drill w)) before after ending row = λ i. (row.row.others i).given
   clock_row (Some (fetch w)) before after ending row = λ i. (row.row.rest i).given
+  clock_row (Some (coverage w)) before after ending row = λ i. (row.row.others i).given
 
   pub ports_row : (command : Option Command) (before after : World D) (ending : Result (Unit {0}) Stop) → IsEnding view secret command before after ending → KeepsPorts command before.ports after.ports
   ports_row None before after ending row = λ i. (row.1 i).ports
@@ -138,3 +144,4 @@ module _ {D : Type 0} (view : D → DiskView) (secret : Secret) where
   ports_row (Some (serve w)) before after ending row = tt
   ports_row (Some (drill w)) before after ending row = λ i. (row.row.others i).ports
   ports_row (Some (fetch w)) before after ending row = fetch_others w before after ending row
+  ports_row (Some (coverage w)) before after ending row = λ i. (row.row.others i).ports

@@ -10,7 +10,7 @@ use Rattle.centre.specs.Given.{World}
 use Rattle.centre.specs.Settled.{HasWritten, IsCutShort, IsFree, KeepsFile, KeepsSink, HasNoLink}
 use Rattle.centre.specs.Status.{status_of_refusal, status_of_run}
 use Rattle.centre.specs.declared.ending.Refusal.{Refusal}
-use Rattle.centre.specs.declared.ending.Refusal.TheVariants.{UnknownCommand, Value, Order, Record, NoData, TooLarge, InputTooLong, NotEmpty, NotAJournal, Damaged, RequestCut, Peer, BadReply, Lost, Moved, Requests}
+use Rattle.centre.specs.declared.ending.Refusal.TheVariants.{UnknownCommand, Value, Order, Record, NoData, TooLarge, TooManyLines, InputTooLong, NotEmpty, NotAJournal, Damaged, RequestCut, Peer, BadReply, Lost, Moved, Requests}
 use Rattle.centre.specs.declared.ending.Stop.{Stop}
 
 -- the statuses that no refusal has
@@ -32,6 +32,7 @@ refused_is Order = refl
 refused_is (Record at fault) = refl
 refused_is NoData = refl
 refused_is (TooLarge bytes limit) = refl
+refused_is (TooManyLines lines limit) = refl
 refused_is InputTooLong = refl
 refused_is NotEmpty = refl
 refused_is NotAJournal = refl
@@ -61,7 +62,7 @@ pub record Says {D : Type 0} (view : D → DiskView) (command : Option Command) 
   pub read : n ≡ 5 → Rose before.streams.source.faults after.streams.source.faults
   pub disk : n ≡ 7 → Rose (view before.disk).faults (view after.disk).faults
   pub port : n ≡ 8 → OneRose before.ports after.ports
-  pub no_link : n ≡ 17 → HasNoLink after.ports
+  pub no_link : n ≡ 17 → HasNoLink command after.ports
   pub untouched : n ≡ 9 → WhereTold (view before.disk) (KeepsFile (view before.disk) (view after.disk))
   pub unknown : n ≡ 1 → command ≡ None
 
@@ -132,7 +133,7 @@ module _ {D : Type 0} (view : D → DiskView) (command : Option Command) (before
     unknown = λ e. absurd (omega (arith, e));
   }
 
-  pub links_spent : KeepsSink command before.streams.sink after.streams.sink → HasNoLink after.ports → Says view command before after 17
+  pub links_spent : KeepsSink command before.streams.sink after.streams.sink → HasNoLink command after.ports → Says view command before after 17
   links_spent same spent = record {
     written = λ e. absurd (omega (arith, e));
     cut = λ e. absurd (omega (arith, e));

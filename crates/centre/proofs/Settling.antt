@@ -9,16 +9,17 @@ use Rattle.streams.specs.View.{StreamView}
 use Rattle.centre_drill.specs.Drill.{HoldsHistory}
 use Rattle.centre_drill.specs.History.{made_history}
 use Rattle.centre_select.specs.Status.{Tells}
-use Rattle.command_words.specs.Commands.{InitWords, TalkWords, ServeWords, DrillWords, FetchWords, Command, select, init, talk, serve, drill, fetch, show}
+use Rattle.command_words.specs.Commands.{InitWords, TalkWords, ServeWords, DrillWords, FetchWords, CoverageWords, Command, select, init, talk, serve, drill, fetch, coverage, show}
 use Rattle.centre.specs.Answers.{IsAnswer}
 use Rattle.centre.specs.Given.{World, Given, AreGiven, Told}
-use Rattle.centre.specs.Settled.{IsFree, ComesWhere, IsComplete, IsCutShort, IsSettled, IsRefused, IsTooLarge, IsNoArchive, IsPeerRefusal, IsUnsettled, IsUnknown, HoldsNewArchive, KeepsUnused, KeepsSink, KeepsPorts, AsksNoClock, HasEndedTalk, HasEndedServe, HasEndedFetch, RunRows, status_of_answer, text_of_answer}
+use Rattle.centre.specs.Settled.{IsFree, ComesWhere, IsComplete, IsCutShort, IsSettled, IsRefused, IsTooLarge, IsNoArchive, IsPeerRefusal, IsUnsettled, IsUnknown, HoldsNewArchive, KeepsUnused, KeepsSink, KeepsPorts, AsksNoClock, HasEndedTalk, HasEndedServe, HasEndedFetch, HasEndedCoverage, KeepsFile, RunRows, status_of_answer, text_of_answer}
 use Rattle.centre.specs.Status.{status_of_run, text_of_run}
 use Rattle.centre.specs.Table.{IsEnding, IsRun, IsStarved}
 use Rattle.centre.specs.declared.ending.Refusal.{Refusal}
-use Rattle.centre.specs.declared.ending.Refusal.TheVariants.{NoData, TooLarge, InputTooLong, NotEmpty, NotAJournal, Damaged, RequestCut, Peer, BadReply, Lost, Moved, Requests}
+use Rattle.centre.specs.declared.ending.Refusal.TheVariants.{NoData, TooLarge, TooManyLines, InputTooLong, NotEmpty, NotAJournal, Damaged, RequestCut, Peer, BadReply, Lost, Moved, Requests}
 use Rattle.centre.specs.declared.ending.Stop.{Stop}
 use Rattle.centre.specs.declared.ending.Stop.TheVariants.{OutOfMemory}
+use Rattle.centre.proofs.CoverageRows.{coverage_keeps, keeps_same}
 use Rattle.centre.proofs.DrillRows.{drill_held}
 use Rattle.centre.proofs.InitRows.{init_founded}
 use Rattle.centre.proofs.OneAnswer.{one_answer}
@@ -95,11 +96,15 @@ module _ {D : Type 0} (view : D → DiskView) (secret : Secret) (command : Optio
       (λ given has. refusals command given 3 (λ e. omega (arith, e)) has)
       (λ given h. record { answer = Err NoData; is = h; status_is = refl })
 
+  large_status : (given : Given) → IsTooLarge command given → HasStatus command given 4
+  large_status given (inl h) = record { answer = Err (TooLarge h.0 h.1); is = h.2; status_is = refl }
+  large_status given (inr h) = record { answer = Err (TooManyLines h.0 h.1); is = h.2; status_is = refl }
+
   pub too_large_comes : Told view command before after (λ given. ComesWhere status 4 (IsTooLarge command given))
   too_large_comes =
       comes 4 (λ given. IsTooLarge command given) (λ free. false≢true (free_is 4 free))
-      (λ given has. let h = refusals command given 4 (λ e. omega (arith, e)) has in record { bytes = h.0; limit = h.1; answer = h.2 })
-      (λ given h. record { answer = Err (TooLarge h.bytes h.limit); is = h.answer; status_is = refl })
+      (λ given has. refusals command given 4 (λ e. omega (arith, e)) has)
+      large_status
 
   archive_status : (given : Given) → IsNoArchive command given → HasStatus command given 9
   archive_status given (inl h) = record { answer = Err NotEmpty; is = h; status_is = refl }
@@ -162,6 +167,7 @@ kept_same (Some (talk w)) old new same = tt
 kept_same (Some (serve w)) old new same = same
 kept_same (Some (drill w)) old new same = same
 kept_same (Some (fetch w)) old new same = same
+kept_same (Some (coverage w)) old new same = same
 
 unused_same : {D : Type 0} (command : Option Command) (old new : D) → new ≡ old → KeepsUnused command old new
 unused_same None old new same = same
@@ -172,6 +178,7 @@ unused_same (Some (talk w)) old new same = tt
 unused_same (Some (serve w)) old new same = tt
 unused_same (Some (drill w)) old new same = tt
 unused_same (Some (fetch w)) old new same = same
+unused_same (Some (coverage w)) old new same = tt
 
 clock_same : (command : Option Command) (old new : Option (List Moment)) → new ≡ old → AsksNoClock command old new
 clock_same None old new same = same
@@ -182,6 +189,7 @@ clock_same (Some (talk w)) old new same = tt
 clock_same (Some (serve w)) old new same = same
 clock_same (Some (drill w)) old new same = same
 clock_same (Some (fetch w)) old new same = same
+clock_same (Some (coverage w)) old new same = same
 
 part_rose : {D : Type 0} (view : D → DiskView) (command : Option Command) (before after : World D) → IsCutShort view command before after → Rose before.streams.sink.faults after.streams.sink.faults
 part_rose view None before after cut = cut.rose
@@ -192,6 +200,7 @@ part_rose view (Some (talk w)) before after cut = cut
 part_rose view (Some (serve w)) before after cut = cut.rose
 part_rose view (Some (drill w)) before after cut = cut.rose
 part_rose view (Some (fetch w)) before after cut = cut.rose
+part_rose view (Some (coverage w)) before after cut = cut.puts.rose
 
 module _ {D : Type 0} (view : D → DiskView) (secret : Secret) (command : Option Command) (before after : World D) (old new : StreamView) (status : ℕ) (run : IsRun view secret command before after old new status) where
   -- where memory ran out before the words were read the status is 70, and nothing changed
@@ -256,6 +265,15 @@ module _ {D : Type 0} (view : D → DiskView) (secret : Secret) (command : Optio
   fetched : (w : FetchWords) → command ≡ Some (fetch w) → HasEndedFetch w before after status
   fetched w is = record { ending = run.ending; status_is = run.status_is; row = row_of (Some (fetch w)) is }
 
+  covered : (w : CoverageWords) → command ≡ Some (coverage w) → HasEndedCoverage view w before after status
+  covered w is = record { ending = run.ending; status_is = run.status_is; row = row_of (Some (coverage w)) is }
+
+  only_read : (w : CoverageWords) → command ≡ Some (coverage w) → WhereTold (view before.disk) (KeepsFile (view before.disk) (view after.disk))
+  only_read w is = elim (row_of (Some (coverage w)) is) [
+    | inl starved ↦ keeps_same view before.disk after.disk (λ i. (starved.1 i).disk)
+    | inr row ↦ coverage_keeps view w before after run.ending row
+  ]
+
   completes : Told view command before after (λ given. IsComplete view command given before after old new status)
   completes = λ given e unread unwritten undamaged unbroken answer is.
       elim (settles view secret command before after old new status run given e answer is) [
@@ -282,6 +300,8 @@ module _ {D : Type 0} (view : D → DiskView) (secret : Secret) (command : Optio
     talked = talked;
     served = served;
     fetched = fetched;
+    covered = covered;
+    only_read = only_read;
     unknown = unknown;
     refused = refused_comes view secret command before after old new status run;
     no_data = no_data_comes view secret command before after old new status run;

@@ -4,10 +4,10 @@ use Rattle.std.specs.Prelude.{⊤}
 use Rattle.http_digest.specs.declared.secret.Secret.{Secret}
 use Rattle.disk_model.specs.View.{DiskView}
 use Rattle.streams.specs.View.{StreamView}
-use Rattle.command_words.specs.Commands.{SelectWords, Command, select, init, talk, serve, drill, fetch, show, asks_help, command_of, select_words_in, words_of_command}
+use Rattle.command_words.specs.Commands.{SelectWords, Command, select, init, talk, serve, drill, fetch, coverage, show, asks_help, command_of, select_words_in, words_of_command}
 use Rattle.command_words.specs.Layouts.{app_for}
 use Rattle.command_words.specs.Values.{read_by}
-use Rattle.command_words.specs.declared.name.CommandName.TheVariants.{Select, Init, Talk, Serve, Drill, Fetch}
+use Rattle.command_words.specs.declared.name.CommandName.TheVariants.{Select, Init, Talk, Serve, Drill, Fetch, Coverage}
 use Rattle.command_words.specs.declared.name.Shown.TheVariants.{Help, Version, HelpOf}
 use Rattle.centre_select.specs.Status.{Tells, unknown_text, error_text_of as select_text_of, status_of_run as select_status_of_run, text_of_run as select_text_of_run}
 use Rattle.centre_select.specs.Table.{Streams, SelectRow, EndsSo, ShowRow as HelpRow, IsRun as IsRunOfSelect}
@@ -94,11 +94,13 @@ above view secret (Some (show (HelpOf Talk))) before after old new status of sam
 above view secret (Some (show (HelpOf Serve))) before after old new status of same (inr row) = absurd of
 above view secret (Some (show (HelpOf Drill))) before after old new status of same (inr row) = absurd of
 above view secret (Some (show (HelpOf Fetch))) before after old new status of same (inr row) = absurd of
+above view secret (Some (show (HelpOf Coverage))) before after old new status of same (inr row) = absurd of
 above view secret (Some (init w)) before after old new status of same (inr row) = absurd of
 above view secret (Some (talk w)) before after old new status of same (inr row) = absurd of
 above view secret (Some (serve w)) before after old new status of same (inr row) = absurd of
 above view secret (Some (drill w)) before after old new status of same (inr row) = absurd of
 above view secret (Some (fetch w)) before after old new status of same (inr row) = absurd of
+above view secret (Some (coverage w)) before after old new status of same (inr row) = absurd of
 
 -- and the other way round
 select_below : (w : SelectWords) (before after : Streams) (old new : StreamView) (status : ℕ) (ending : Result (Unit {0}) Stop) → SelectEnding w before after ending → status ≡ status_of_run ending → Tells old new (text_of_run ending)
@@ -146,8 +148,10 @@ below view secret command before after old new status of run = by command of run
     by (Some (show (HelpOf Serve))) of ending (inr row) status_is text = absurd of
     by (Some (show (HelpOf Drill))) of ending (inr row) status_is text = absurd of
     by (Some (show (HelpOf Fetch))) of ending (inr row) status_is text = absurd of
+    by (Some (show (HelpOf Coverage))) of ending (inr row) status_is text = absurd of
     by (Some (init w)) of ending (inr row) status_is text = absurd of
     by (Some (talk w)) of ending (inr row) status_is text = absurd of
     by (Some (serve w)) of ending (inr row) status_is text = absurd of
     by (Some (drill w)) of ending (inr row) status_is text = absurd of
     by (Some (fetch w)) of ending (inr row) status_is text = absurd of
+    by (Some (coverage w)) of ending (inr row) status_is text = absurd of

@@ -3,7 +3,7 @@ use Rattle.std.proofs.Common.{ℕ, List, [], Option, None, Some, Result, Ok, Err
 use Rattle.mseed_header.specs.Octets.{AreOctets}
 use Rattle.centre_select.proofs.SomeAnswer.{cut_up, empty_or_not}
 use Rattle.centre_session.proofs.EveryItem.{some_list}
-use Rattle.command_words.specs.Commands.{Command, select, init, talk, serve, drill, fetch, show}
+use Rattle.command_words.specs.Commands.{Command, select, init, talk, serve, drill, fetch, coverage, show}
 use Rattle.centre.specs.Answers.{IsAnswer, HasOpening}
 use Rattle.centre.specs.Drills.{drill_text}
 use Rattle.centre.specs.Given.{Given}
@@ -11,6 +11,7 @@ use Rattle.centre.specs.Shown.{text_shown}
 use Rattle.centre.specs.Talks.{OpensOrNot, IsTalkAnswer}
 use Rattle.centre.specs.declared.ending.Refusal.{Refusal}
 use Rattle.centre.specs.declared.ending.Refusal.TheVariants.{UnknownCommand, NotEmpty}
+use Rattle.centre.proofs.CoverageRows.{some_covering}
 use Rattle.centre.proofs.FetchRows.{some_fetching}
 use Rattle.centre.proofs.OneService.{some_service}
 use Rattle.centre.proofs.OneTalk.{some_talk, some_refusal}
@@ -31,3 +32,4 @@ some_answer (Some (talk w)) given octets through = by_talk given through
 some_answer (Some (serve w)) given octets through = some_service given.file through
 some_answer (Some (drill w)) given octets through = elim (empty_or_not given.file) [ inl none ↦ (Ok (drill_text w.records), inl (none, refl)) | inr some ↦ (Err NotEmpty, inr (some, refl)) ]
 some_answer (Some (fetch w)) given octets through = some_fetching w given.heard through
+some_answer (Some (coverage w)) given octets through = some_covering w given.file through

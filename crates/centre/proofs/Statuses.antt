@@ -3,7 +3,7 @@ use Rattle.std.proofs.Common.{◌≡◌, ◌⊎◌, ◌==◌, inl, inr, ℕ, ref
 use Rattle.std.specs.Prelude.{MatchBool, ⊤}
 use Rattle.centre.specs.Status.{status_of_refusal}
 use Rattle.centre.specs.declared.ending.Refusal.{Refusal}
-use Rattle.centre.specs.declared.ending.Refusal.TheVariants.{UnknownCommand, Value, Order, Record, NoData, TooLarge, InputTooLong, NotEmpty, NotAJournal, Damaged, RequestCut, Peer, BadReply, Lost, Moved, Requests}
+use Rattle.centre.specs.declared.ending.Refusal.TheVariants.{UnknownCommand, Value, Order, Record, NoData, TooLarge, TooManyLines, InputTooLong, NotEmpty, NotAJournal, Damaged, RequestCut, Peer, BadReply, Lost, Moved, Requests}
 
 -- one of the refusals with this status has it
 abbrev pub Of : (Refusal → Type 0) → ℕ → Type 0
@@ -11,7 +11,7 @@ Of P n =
     MatchBool (n == 1) (P UnknownCommand)
     (MatchBool (n == 2) ((refusal : Refusal) × P refusal × (status_of_refusal refusal ≡ 2))
     (MatchBool (n == 3) (P NoData)
-    (MatchBool (n == 4) ((bytes : ℕ) × (limit : ℕ) × P (TooLarge bytes limit))
+    (MatchBool (n == 4) (((bytes : ℕ) × (limit : ℕ) × P (TooLarge bytes limit)) ⊎ ((lines : ℕ) × (limit : ℕ) × P (TooManyLines lines limit)))
     (MatchBool (n == 9) (P NotEmpty ⊎ (P NotAJournal ⊎ ((at : ℕ) × P (Damaged at))))
     (MatchBool (n == 10) (P InputTooLong)
     (MatchBool (n == 11) (P RequestCut)
@@ -26,7 +26,8 @@ of_status P (Value word) p = (Value word, p, refl)
 of_status P Order p = (Order, p, refl)
 of_status P (Record at fault) p = (Record at fault, p, refl)
 of_status P NoData p = p
-of_status P (TooLarge bytes limit) p = (bytes, limit, p)
+of_status P (TooLarge bytes limit) p = inl (bytes, limit, p)
+of_status P (TooManyLines lines limit) p = inr (lines, limit, p)
 of_status P NotEmpty p = inl p
 of_status P NotAJournal p = inr (inl p)
 of_status P (Damaged at) p = inr (inr (at, p))

@@ -1,9 +1,11 @@
 -- What the words and what they make the program read determine: the body that is written, or why there is none.
-use Rattle.std.specs.Prelude.{◌≡◌, ◌≢◌, ◌⊎◌, ℕ, List, [], Option, Some, None, Result, Ok, Err, ⊤}
-use Rattle.command_words.specs.Commands.{Command, select, init, talk, serve, drill, fetch, show}
+use Rattle.std.specs.Prelude.{◌≡◌, ◌≢◌, ◌⊎◌, ℕ, ℤ, List, [], Option, Some, None, Result, Ok, Err, ⊤}
+use Rattle.command_words.specs.Commands.{Command, select, init, talk, serve, drill, fetch, coverage, show}
+use Rattle.centre_coverage.specs.Words.{IsAsked as AskForDays}
 use Rattle.centre_fetch.specs.Answers.{IsHeardOut}
 use Rattle.centre_fetch.specs.Words.{IsAsked}
 use Rattle.split_fetch.specs.declared.window.Window.{Window}
+use Rattle.centre.specs.Coverages.{IsCovering}
 use Rattle.centre.specs.Drills.{IsDrillAnswer}
 use Rattle.centre.specs.Fetches.{IsFetching}
 use Rattle.centre.specs.Given.{Given}
@@ -29,11 +31,13 @@ IsAnswer (Some (talk w)) given answer = IsTalkAnswer given.file given.input answ
 IsAnswer (Some (serve w)) given answer = IsServeAnswer given.file answer
 IsAnswer (Some (drill w)) given answer = IsDrillAnswer w.records given.file answer
 IsAnswer (Some (fetch w)) given answer = IsFetching w given.heard answer
+IsAnswer (Some (coverage w)) given answer = IsCovering w given.file answer
 
--- The file of `talk` and of `serve` opens with a history or has its fault, and where `fetch` has a window to ask for, what it
--- heard leads to an end. The other commands read whatever there is.
+-- The file of `talk` and of `serve` opens with a history or has its fault, and so does that of `coverage` where it has days to ask
+-- for; where `fetch` has a window to ask for, what it heard leads to an end. The other commands read whatever there is.
 abbrev pub HasOpening : Option Command → Given → Type 0
 HasOpening (Some (serve w)) given = OpensOrNot given.file
 HasOpening (Some (talk w)) given = OpensOrNot given.file
 HasOpening (Some (fetch w)) given = (window : Window) → IsAsked w window → IsHeardOut w given.heard
+HasOpening (Some (coverage w)) given = (first : ℤ) (days : ℕ) → AskForDays w first days → OpensOrNot given.file
 HasOpening _ given = ⊤

@@ -7,7 +7,7 @@ use Rattle.disk_model.specs.View.{DiskView}
 use Rattle.link_ports.specs.Ports.{PortView}
 use Rattle.streams.specs.View.{StreamView}
 use Rattle.centre_talk.specs.Talk.{Place, place}
-use Rattle.command_words.specs.Commands.{FetchWords, Command, select, init, talk, serve, drill, fetch}
+use Rattle.command_words.specs.Commands.{FetchWords, Command, select, init, talk, serve, drill, fetch, coverage}
 use Rattle.split_fetch.specs.declared.heard.Heard.{Heard}
 use Rattle.centre_fetch.specs.Table.{IsGiven}
 use Rattle.centre_select.specs.Had.{Had}
@@ -41,8 +41,8 @@ abbrev pub WasHeard : FetchWords → List PortView → List PortView → List He
 WasHeard w (old ∷ others) (new ∷ more) heard = IsGiven w old new heard
 WasHeard w _ _ heard = ⊥
 
--- What the command reads tells that it held this. `select` reads the source to its end, `init`, `drill` and `serve` the
--- disk, `talk` both, `fetch` the links of the first port, on which nothing else can have been heard, and the others nothing.
+-- What the command reads tells that it held this. `select` reads the source to its end, `init`, `drill`, `serve` and `coverage`
+-- the disk, `talk` both, `fetch` the links of the first port, on which nothing else can have been heard, and the others nothing.
 abbrev pub AreGiven : {D : Type 0} → (D → DiskView) → Option Command → World D → World D → Given → Type 0
 AreGiven view (Some (select w)) before after given = before.streams.source.left ≡ Some given.input
 AreGiven view (Some (init w)) before after given = (view before.disk).content ≡ Some given.file
@@ -51,6 +51,7 @@ AreGiven view (Some (drill w)) before after given = (view before.disk).content �
 AreGiven view (Some (talk w)) before after given =
     ((view before.disk).content ≡ Some given.file) × IsSome before.streams.source.left × Consumes before.streams.source.left after.streams.source.left given.input
 AreGiven view (Some (fetch w)) before after given = (heard : List Heard) → WasHeard w before.ports after.ports heard → heard ≡ given.heard
+AreGiven view (Some (coverage w)) before after given = (view before.disk).content ≡ Some given.file
 AreGiven view _ before after given = ⊤
 
 -- what the command reads held this, where it tells

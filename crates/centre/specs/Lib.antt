@@ -1,4 +1,5 @@
 pub mod Answers
+pub mod Coverages
 pub mod Drills
 pub mod Ends
 pub mod Fetches

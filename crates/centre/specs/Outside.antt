@@ -1,6 +1,6 @@
 -- Which objects of the outside a command needs.
 use Rattle.std.specs.Prelude.{◌≡◌, Bool, List, ℕ, Option, None, Some, true, false}
-use Rattle.command_words.specs.Commands.{ServeWords, FetchWords, Command, init, talk, serve, drill, fetch}
+use Rattle.command_words.specs.Commands.{ServeWords, FetchWords, Command, init, talk, serve, drill, fetch, coverage}
 use Rattle.centre.specs.declared.objects.Outside.{Outside}
 
 -- no address, and one worker without an end
@@ -37,7 +37,7 @@ pub record NamesPeer (outside : Outside) (w : FetchWords) : Type 0 where
   pub workers : outside.workers ≡ 1
   pub sessions : outside.sessions ≡ None
 
--- `init` and `drill` make the file that they are given, `talk` and `serve` open the one that they are given; `fetch` dials;
+-- `init` and `drill` make the file that they are given, `talk`, `serve` and `coverage` open the one that they are given; `fetch` dials;
 -- the other commands use no archive
 abbrev pub IsOutside : Option Command → Outside → Type 0
 IsOutside (Some (init w)) outside = NamesJournal outside (Some w.journal) true
@@ -45,4 +45,5 @@ IsOutside (Some (drill w)) outside = NamesJournal outside (Some w.journal) true
 IsOutside (Some (talk w)) outside = NamesJournal outside (Some w.journal) false
 IsOutside (Some (serve w)) outside = NamesService outside w
 IsOutside (Some (fetch w)) outside = NamesPeer outside w
+IsOutside (Some (coverage w)) outside = NamesJournal outside (Some w.journal) false
 IsOutside _ outside = NamesJournal outside None false

@@ -8,9 +8,11 @@ use Rattle.archive_log.specs.Histories.{Recovers, IsHistoryOf}
 use Rattle.exact_time.specs.Causes.{Rose}
 use Rattle.exact_time.specs.declared.moment.Moment.{Moment}
 use Rattle.centre.specs.declared.ending.Refusal.{Refusal}
-use Rattle.centre.specs.declared.ending.Refusal.TheVariants.{NoData, TooLarge, NotEmpty, InputTooLong, NotAJournal, Damaged, RequestCut, Peer, BadReply, Lost, Moved, Requests}
+use Rattle.centre.specs.declared.ending.Refusal.TheVariants.{NoData, TooLarge, TooManyLines, NotEmpty, InputTooLong, NotAJournal, Damaged, RequestCut, Peer, BadReply, Lost, Moved, Requests}
 use Rattle.centre.specs.Answers.{IsAnswer}
-use Rattle.command_words.specs.Commands.{InitWords, TalkWords, ServeWords, DrillWords, FetchWords, Command, init, talk, serve, drill, fetch}
+use Rattle.command_words.specs.Commands.{InitWords, TalkWords, ServeWords, DrillWords, FetchWords, CoverageWords, Command, init, talk, serve, drill, fetch, coverage}
+use Rattle.centre_coverage.specs.Table.{IsReporting}
+use Rattle.centre_coverage.specs.declared.ending.CoverageStop.TheVariants as coverage_stop
 use Rattle.centre_drill.specs.Drill.{HoldsHistory}
 use Rattle.centre_drill.specs.History.{made_history}
 use Rattle.centre.specs.Given.{World, Given, HadGiven, Told}
@@ -21,6 +23,7 @@ use Rattle.centre_select.specs.Status.{Tells}
 use Rattle.centre.specs.Table.{IsStarved}
 use Rattle.centre_serve.specs.Whole.{OneRose}
 use Rattle.link_ports.specs.Ports.{PortView, IsSpent}
+use Rattle.centre.specs.Coverages.{CoverageEnding}
 use Rattle.centre.specs.Fetches.{FetchEnding}
 use Rattle.centre.specs.Serves.{ServeEnding}
 use Rattle.centre.specs.Talks.{TalkEnding}
@@ -73,10 +76,12 @@ pub record GotAnswer {D : Type 0} (view : D → DiskView) (command : Option Comm
   pub answer : IsAnswer command given (Ok body)
   pub output : Grew before.streams.sink.written after.streams.sink.written body
 
--- status 0: the sink got the answer; what `talk` wrote is said by its session, and `serve` writes nothing on it
+-- status 0: the sink got the answer, of `coverage` the report of the history with which the disk's file opens; what `talk` wrote is
+-- said by its session, and `serve` writes nothing on it
 abbrev pub HasWritten : {D : Type 0} → (D → DiskView) → Option Command → World D → World D → Type 0
 HasWritten view (Some (talk w)) before after = ⊤
 HasWritten view (Some (serve w)) before after = after.streams.sink ≡ before.streams.sink
+HasWritten view (Some (coverage w)) before after = IsReporting view w before.streams.sink after.streams.sink before.disk after.disk (Ok tt)
 HasWritten view command before after = GotAnswer view command before after
 
 -- a word of the query, the order of its times or a record of the input is refused
@@ -85,11 +90,11 @@ pub record IsRefused (command : Option Command) (given : Given) : Type 0 where
   pub answer : IsAnswer command given (Err refusal)
   pub status_is : status_of_refusal refusal ≡ 2
 
--- the answer has more bytes than its limit
-pub record IsTooLarge (command : Option Command) (given : Given) : Type 0 where
-  pub bytes : ℕ
-  pub limit : ℕ
-  pub answer : IsAnswer command given (Err (TooLarge bytes limit))
+-- the answer has more bytes than its limit, or the report more lines
+abbrev pub IsTooLarge : Option Command → Given → Type 0
+IsTooLarge command given =
+    ((bytes : ℕ) × (limit : ℕ) × IsAnswer command given (Err (TooLarge bytes limit)))
+    ⊎ ((lines : ℕ) × (limit : ℕ) × IsAnswer command given (Err (TooManyLines lines limit)))
 
 -- the file isn't one that the command can use: it has bytes where it is to be made, or is no archive where it is to be
 -- opened
@@ -106,9 +111,10 @@ pub record GotPart {D : Type 0} (view : D → DiskView) (command : Option Comman
   pub rose : Rose before.streams.sink.faults after.streams.sink.faults
   pub output : WritesPart before.streams.sink.written after.streams.sink.written body
 
--- status 6: the sink failed; what `talk` wrote is said by its session
+-- status 6: the sink failed, in `coverage` after a first part of the report; what `talk` wrote is said by its session
 abbrev pub IsCutShort : {D : Type 0} → (D → DiskView) → Option Command → World D → World D → Type 0
 IsCutShort view (Some (talk w)) before after = Rose before.streams.sink.faults after.streams.sink.faults
+IsCutShort view (Some (coverage w)) before after = IsReporting view w before.streams.sink after.streams.sink before.disk after.disk (Err coverage_stop.WriteFault)
 IsCutShort view command before after = GotPart view command before after
 
 -- the disk reads as the journal of a new archive of this operator, and so does every image
@@ -127,6 +133,7 @@ KeepsUnused (Some (init w)) old new = ⊤
 KeepsUnused (Some (talk w)) old new = ⊤
 KeepsUnused (Some (serve w)) old new = ⊤
 KeepsUnused (Some (drill w)) old new = ⊤
+KeepsUnused (Some (coverage w)) old new = ⊤
 KeepsUnused _ old new = new ≡ old
 
 -- and `talk` alone asks the clock
@@ -145,10 +152,10 @@ KeepsPorts (Some (serve w)) old new = ⊤
 KeepsPorts (Some (fetch w)) old new = KeepsOthers old new
 KeepsPorts _ old new = new ≡ old
 
--- the first port has no more links
-abbrev pub HasNoLink : List PortView → Type 0
-HasNoLink [] = ⊥
-HasNoLink (port ∷ others) = IsSpent port.left
+-- the first port has no more links, of which `fetch` alone takes one after another
+abbrev pub HasNoLink : Option Command → List PortView → Type 0
+HasNoLink (Some (fetch w)) (port ∷ others) = IsSpent port.left
+HasNoLink _ _ = ⊥
 
 -- with every status but 0 and 6 the sink is as before, unless the command is `talk`
 abbrev pub KeepsSink : Option Command → StreamView → StreamView → Type 0
@@ -177,6 +184,12 @@ pub record HasEndedFetch {D : Type 0} (w : FetchWords) (before after : World D) 
   pub ending : Result (Unit {0}) Stop
   pub status_is : status ≡ status_of_run ending
   pub row : IsStarved before after ending ⊎ FetchEnding w before after ending
+
+-- `coverage` ended so: a report of the archive of the disk, or none for its cause
+pub record HasEndedCoverage {D : Type 0} (view : D → DiskView) (w : CoverageWords) (before after : World D) (status : ℕ) : Type 0 where
+  pub ending : Result (Unit {0}) Stop
+  pub status_is : status ≡ status_of_run ending
+  pub row : IsStarved before after ending ⊎ CoverageEnding view w before after ending
 
 -- the data centre answered a status that is no answer
 abbrev pub IsPeerRefusal : Option Command → Given → Type 0
@@ -209,6 +222,9 @@ pub record RunRows {D : Type 0} (view : D → DiskView) (secret : Secret) (comma
   pub served : (w : ServeWords) → command ≡ Some (serve w) → HasEndedServe view secret w before after status
   -- `fetch`, with whatever status
   pub fetched : (w : FetchWords) → command ≡ Some (fetch w) → HasEndedFetch w before after status
+  -- `coverage`, with whatever status: the file reads as before, so it opens with the same history
+  pub covered : (w : CoverageWords) → command ≡ Some (coverage w) → HasEndedCoverage view w before after status
+  pub only_read : (w : CoverageWords) → command ≡ Some (coverage w) → WhereTold (view before.disk) (KeepsFile (view before.disk) (view after.disk))
   -- each other status, and its cause
   pub unknown : IsUnknown command status
   pub refused : Told view command before after (λ given. ComesWhere status 2 (IsRefused command given))
@@ -225,5 +241,5 @@ pub record RunRows {D : Type 0} (view : D → DiskView) (secret : Secret) (comma
   pub peer : Told view command before after (λ given. ComesWhere status 13 (IsPeerRefusal command given))
   pub bad_reply : Told view command before after (λ given. ComesWhere status 14 (IsAnswer command given (Err BadReply)))
   pub unsettled : Told view command before after (λ given. ComesWhere status 15 (IsUnsettled command given))
-  pub no_link : status ≡ 17 → HasNoLink after.ports
+  pub no_link : status ≡ 17 → HasNoLink command after.ports
   pub requests : Told view command before after (λ given. ComesWhere status 18 (IsAnswer command given (Err Requests)))

@@ -8,7 +8,7 @@ use Rattle.centre_desk.specs.declared.fault.Fault.TheVariants as fault
 use Rattle.query_parameters.specs.declared.fault.QueryFault.TheVariants as query
 use Rattle.centre_select.specs.Status.{name_of_word}
 use Rattle.centre.specs.declared.ending.Refusal.{Refusal}
-use Rattle.centre.specs.declared.ending.Refusal.TheVariants.{UnknownCommand, Value, Order, Record, NoData, TooLarge, InputTooLong, NotEmpty, NotAJournal, Damaged, RequestCut, Peer, BadReply, Lost, Moved, Requests}
+use Rattle.centre.specs.declared.ending.Refusal.TheVariants.{UnknownCommand, Value, Order, Record, NoData, TooLarge, TooManyLines, InputTooLong, NotEmpty, NotAJournal, Damaged, RequestCut, Peer, BadReply, Lost, Moved, Requests}
 use Rattle.centre.specs.declared.ending.Stop.{Stop}
 use Rattle.centre.specs.declared.ending.Stop.TheVariants.{Refused, ReadFault, WriteFault, DiskFault, PortFault, NoLink, OutOfMemory}
 
@@ -19,6 +19,7 @@ status_of_refusal Order = 2
 status_of_refusal (Record at fault) = 2
 status_of_refusal NoData = 3
 status_of_refusal (TooLarge bytes limit) = 4
+status_of_refusal (TooManyLines lines limit) = 4
 status_of_refusal NotEmpty = 9
 status_of_refusal NotAJournal = 9
 status_of_refusal (Damaged at) = 9
@@ -54,6 +55,7 @@ text_of_refusal Order = text_of_fault (fault.Query query.Order)
 text_of_refusal (Record at fault) = codes "centre: record at offset " ++ decimal at ++ codes ": " ++ record_fault_name fault ++ codes "\n"
 text_of_refusal NoData = text_of_fault fault.NoData
 text_of_refusal (TooLarge bytes limit) = text_of_fault (fault.ManyBytes bytes limit)
+text_of_refusal (TooManyLines lines limit) = text_of_fault (fault.ManyLines lines limit)
 text_of_refusal NotEmpty = codes "centre: journal is not empty\n"
 text_of_refusal NotAJournal = codes "centre: not a journal\n"
 text_of_refusal (Damaged at) = codes "centre: journal damaged at " ++ decimal at ++ codes "\n"

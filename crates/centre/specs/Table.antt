@@ -2,11 +2,12 @@
 use Rattle.std.specs.Prelude.{◌≡◌, ◌⊎◌, ℕ, List, [], Option, Some, None, Result, Ok, Err, IsErrOf}
 use Rattle.centre_select.specs.Status.{Tells}
 use Rattle.centre_select.specs.Table.{Streams, IsShown, IsShowStopped}
-use Rattle.centre.specs.declared.ending.Refusal.TheVariants.{UnknownCommand, Record, TooLarge, NotEmpty, Damaged, Peer, Moved}
+use Rattle.centre.specs.declared.ending.Refusal.TheVariants.{UnknownCommand, Record, TooLarge, TooManyLines, NotEmpty, Damaged, Peer, Moved}
 use Rattle.centre.specs.declared.ending.Stop.{Stop}
 use Rattle.centre.specs.declared.ending.Stop.TheVariants.{Refused, WriteFault, DiskFault, OutOfMemory}
 use Rattle.http_digest.specs.declared.secret.Secret.{Secret}
-use Rattle.command_words.specs.Commands.{InitWords, Command, select, init, talk, serve, drill, fetch, show}
+use Rattle.command_words.specs.Commands.{InitWords, Command, select, init, talk, serve, drill, fetch, coverage, show}
+use Rattle.centre.specs.Coverages.{CoverageEnding}
 use Rattle.centre.specs.Drills.{DrillEnding}
 use Rattle.centre.specs.Ends.{EndsBy}
 use Rattle.centre.specs.Fetches.{FetchEnding}
@@ -61,11 +62,13 @@ IsEnding view secret (Some (talk w)) before after ending = TalkEnding view secre
 IsEnding view secret (Some (serve w)) before after ending = ServeEnding view secret w before after ending
 IsEnding view secret (Some (drill w)) before after ending = DrillEnding view w before after ending
 IsEnding view secret (Some (fetch w)) before after ending = FetchEnding w before after ending
+IsEnding view secret (Some (coverage w)) before after ending = CoverageEnding view w before after ending
 
 -- What a stop is told as: itself, or want of memory where a text with numbers can't be made.
 abbrev pub ToldFor : Stop → Stop → Type 0
 ToldFor (Refused (Record at fault)) told = (told ≡ Refused (Record at fault)) ⊎ (told ≡ OutOfMemory)
 ToldFor (Refused (TooLarge bytes limit)) told = (told ≡ Refused (TooLarge bytes limit)) ⊎ (told ≡ OutOfMemory)
+ToldFor (Refused (TooManyLines lines limit)) told = (told ≡ Refused (TooManyLines lines limit)) ⊎ (told ≡ OutOfMemory)
 ToldFor (Refused (Damaged at)) told = (told ≡ Refused (Damaged at)) ⊎ (told ≡ OutOfMemory)
 ToldFor (Refused (Peer status)) told = (told ≡ Refused (Peer status)) ⊎ (told ≡ OutOfMemory)
 ToldFor (Refused (Moved a b)) told = (told ≡ Refused (Moved a b)) ⊎ (told ≡ OutOfMemory)

@@ -14,10 +14,12 @@ pub enum Refusal {
     Order,
     /// The record at this offset, in bytes, is the first that is refused.
     Record { at: usize, fault: RecordFault },
-    /// No record is picked.
+    /// No record is picked, or nothing is covered.
     NoData,
     /// The answer has more bytes than the limit.
     TooLarge { bytes: u64, limit: u64 },
+    /// The report has more lines than the limit.
+    TooManyLines { lines: u64, limit: u64 },
     /// The file of a journal that is to be made has bytes.
     NotEmpty,
     /// The file of the archive has fewer than 17 bytes, or another magic.
@@ -69,7 +71,7 @@ impl Refusal {
             Refusal::UnknownCommand => 1,
             Refusal::Value(_) | Refusal::Order | Refusal::Record { .. } => 2,
             Refusal::NoData => 3,
-            Refusal::TooLarge { .. } => 4,
+            Refusal::TooLarge { .. } | Refusal::TooManyLines { .. } => 4,
             Refusal::NotEmpty | Refusal::NotAJournal | Refusal::Damaged(_) => 9,
             Refusal::InputTooLong => 10,
             Refusal::RequestCut => 11,

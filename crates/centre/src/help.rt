@@ -15,6 +15,7 @@ fn help_of(command: CommandName) -> &'static str
         CommandName::Serve => SERVE_HELP,
         CommandName::Drill => DRILL_HELP,
         CommandName::Fetch => FETCH_HELP,
+        CommandName::Coverage => COVERAGE_HELP,
     }
 }
 
@@ -49,6 +50,8 @@ Usage:
   velkatsa drill --help
   velkatsa fetch --peer A:P NET STA LOC CHA START END > RECORDS
   velkatsa fetch --help
+  velkatsa coverage --journal F START END [--max-lines N] > REPORT
+  velkatsa coverage --help
   velkatsa --help
   velkatsa --version
 
@@ -73,6 +76,9 @@ fetch asks another data centre for the records of a window, in as many parts as
 it takes, and writes them, whole and each once, to standard output. `velkatsa
 fetch --help` says how, with an example.
 
+coverage says how much of each day an archive holds, channel by channel.
+`velkatsa coverage --help` says how, with an example.
+
 An option is --NAME VALUE or --NAME=VALUE, in any place behind the command, and
 once at most. A value that begins with a hyphen is written --NAME=VALUE.
 
@@ -82,17 +88,18 @@ Exit status, and the text on standard error:
    0  nothing        the answer was written
    1  centre: unknown command line
    2  centre: query: Value STA, centre: query: Value MINIMUM: that word can't be
-      read; centre: query: Order: START is after END;
+      read; of coverage, centre: query: Value END: or there are more than 3660
+      days; centre: query: Order: START is after END;
       centre: record at offset 512: Short: the input isn't whole records
    3  centre: no data
-   4  centre: 512 bytes exceed 511
+   4  centre: 512 bytes exceed 511; of coverage: centre: 2 lines exceed 1
    5  centre: read fault
    6  centre: write fault
    7  centre: disk fault
    8  centre: port fault: of serve, a worker couldn't listen; of fetch, nobody
       listens at the address
-   9  centre: journal is not empty; of talk and serve: centre: not a journal,
-      centre: journal damaged at 16
+   9  centre: journal is not empty; of talk, serve and coverage: centre: not a
+      journal, centre: journal damaged at 16
   10  centre: input too long
   11  centre: request cut: the input of talk ended inside a request
   13  centre: peer answered 404
@@ -142,8 +149,8 @@ Usage:
 Opens the archive whose journal is the file F and serves HTTP/1.1 at the address
 A and the port P: the FDSN web services dataselect, station and event in text
 and availability, and feeds by which observatories post records and operators
-revise the catalog. Who may post is said by the users of the archive, and HTTP
-Digest says who asks (realm FDSN, RFC 2617).
+revise the catalog and withdraw records. Who may post is said by the users of
+the archive, and HTTP Digest says who asks (realm FDSN, RFC 2617).
 
   --journal F        the path of the file, as `velkatsa init` made it. Nothing
                      else may write it meanwhile
@@ -160,8 +167,9 @@ Digest says who asks (realm FDSN, RFC 2617).
   --max-archive N    the most bytes of all that was posted, 1 to 536870912
 
 The paths. Where there is POST, its body has parameters and selections, a line
-each; a user is asked for at those that end in auth, and at the last two, which
-take the next number of that user as seq=N:
+each; a user is asked for at those that end in auth, and at the last three: the
+feed takes the next number of that user as seq=N, and a user with the role
+replica copies the entries of the archive from that of a number on, from=N:
 
   /fdsnws/dataselect/1/query           GET, POST
   /fdsnws/dataselect/1/queryauth       GET, POST
@@ -177,11 +185,19 @@ take the next number of that user as seq=N:
   /fdsnws/event/1/version              GET
   /feed/1/batch                        POST
   /feed/1/revise                       POST
+  /archive/1/entries                   GET
 
 Each limit is its greatest number where it isn't given. A connection ends where
 its client says nothing, or takes nothing, for 30 seconds, and behind 1000
 replies. What is posted to one worker is seen by the others at once where a
 client asks for it (X-Archive-Front), and else soon.
+
+A line of a revision withdraws faulty records: those that its patterns match,
+from its start to its end, and that came with its entry or an earlier one. They
+are in no answer any more, until another line ends that; they stay in the
+journal for ever, and count for its limits:
+  WDR|IU|ANMO|00|BHZ|2024-02-01T10:00:00|2024-02-01T12:00:00|4711
+  DEL|WDR|IU|ANMO|00|BHZ|2024-02-01T10:00:00
 
 The process can be ended by a signal at any moment: what was answered with 200
 is in the journal. Where a worker can't listen at its port, it ends, and the
@@ -281,4 +297,37 @@ four bytes for each byte of them, and are at most 268435456 bytes.
 An example:
   ./velkatsa fetch --peer 127.0.0.1:8080 IU ANMO 00 BHZ \\
       2024-02-01 2024-02-02 > anmo.mseed
+";
+
+/// What `coverage --help` shows: the words of that command.
+pub const COVERAGE_HELP: &str = "\
+Usage:
+  velkatsa coverage --journal F START END [--max-lines N] > REPORT
+
+Says how much of each day from START to END the archive whose journal is the
+file F holds: a line for each channel and each day of which it holds something,
+by channel and then by day. A day without a line is one of which it holds
+nothing. A line, for instance:
+
+  IU ANMO 00 BHZ 2024-02-01 3610000000 4.17
+
+It has the four codes, of which the blank location is written --, the date, how
+many microseconds of the day are covered, and the per cent of the day, rounded
+down. A record covers the time from its first sample to one interval behind its
+last. Where records overlap, that time counts once. A record of rate 0 covers
+nothing, and so does a record that is withdrawn.
+
+  --journal F    the path of the file, as `velkatsa init` made it. It is read
+                 and stays as it is
+  START          the first day, as 2024-02-01, of the years 1900 to 2599
+  END            the last day, in the same way: the days are at most 3660
+  --max-lines N  the most lines of the report, 1 to 100000, which it is where
+                 it isn't given. A longer one isn't written
+
+An archive that is being served is locked, and asking it ends with centre: disk
+fault. Ask a copy of it, which can be made at any moment:
+  cp archive.journal copy.journal
+  ./velkatsa coverage --journal copy.journal 2024-02-01 2024-02-29 > report
+
+examples/clients/coverage_svg.py draws a report as a picture.
 ";

@@ -7,7 +7,8 @@
 //! `talk` is a session over the source and the sink on the archive of the disk (`specs/Talks.antt`); with status 0 of `drill`
 //! the disk holds the archive of made records, and the sink got its figures (`specs/Drills.antt`); `serve` is a service over
 //! the archive of the disk and the ports of several workers (`specs/Serves.antt`); with status 0 of `fetch` the sink got the
-//! records of a window of another data centre, as the first port's links gave them (`specs/Fetches.antt`); and each other status
+//! records of a window of another data centre, as the first port's links gave them (`specs/Fetches.antt`); with status 0 of
+//! `coverage` it got the report of what the archive of the disk holds (`specs/Coverages.antt`); and each other status
 //! comes where its cause holds (`specs/Settled.antt`), and leaves what the table says (`specs/Table.antt`).
 //! [`outside_of`] says which file, and which address, the words name. Which command the words give is said by `command_words`.
 //!
@@ -17,6 +18,7 @@
 //! over std's readers and writers.
 #![tactic(auto)]
 
+mod covering;
 mod ending;
 mod fetching;
 mod help;
@@ -31,7 +33,9 @@ mod telling;
 pub use centre_select::{MAX_INPUT, SELECT_HELP, StdSink, StdSource, Word};
 pub use centre_serve::Worker;
 pub use ending::{Refusal, Stop};
-pub use help::{DRILL_HELP, FETCH_HELP, HELP, INIT_HELP, SERVE_HELP, TALK_HELP, VERSION};
+pub use help::{
+    COVERAGE_HELP, DRILL_HELP, FETCH_HELP, HELP, INIT_HELP, SERVE_HELP, TALK_HELP, VERSION,
+};
 pub use law::{one_answer_at_most, some_answer, the_small_program_says_the_same};
 pub use objects::Outside;
 pub use outside::outside_of;

@@ -76,6 +76,9 @@ pub fn outside_of(alloc: Global, words: &[String]) -> Result<Outside, OutOfMemor
         Some(CommandWords::Talk(arguments)) => {
             Ok(with_journal(Some(path_of(alloc, arguments.journal)?), false))
         }
+        Some(CommandWords::Coverage(arguments)) => {
+            Ok(with_journal(Some(path_of(alloc, arguments.journal)?), false))
+        }
         Some(CommandWords::Serve(arguments)) => with_service(alloc, &arguments),
         Some(CommandWords::Fetch(arguments)) => with_peer(alloc, &arguments),
         _ => Ok(with_journal(None, false)),

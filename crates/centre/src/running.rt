@@ -1,8 +1,9 @@
 //! The top call: all that the program does.
 ghost use Rattle.std.specs.Prelude.{◌≡◌, ◌⊎◌, ◌≤◌, [], length, map, option_map, string_bytes, vec_capacity, None};
-ghost use Rattle.command_words.specs.Arguments.{limits_at as limit_words_at, init_words_at, talk_words_at, serve_words_at, drill_words_at, fetch_words_at, command_at};
+ghost use Rattle.command_words.specs.Arguments.{limits_at as limit_words_at, init_words_at, talk_words_at, serve_words_at, drill_words_at, fetch_words_at, coverage_words_at, command_at};
 ghost use Rattle.command_words.specs.Commands.{command_of};
 ghost use Rattle.centre_select.specs.Table.{streams};
+ghost use Rattle.centre.specs.Coverages.{CoverageEnding};
 ghost use Rattle.centre.specs.Drills.{DrillEnding};
 ghost use Rattle.centre.specs.Fetches.{FetchEnding};
 ghost use Rattle.centre.specs.Given.{world};
@@ -12,6 +13,7 @@ ghost use Rattle.centre.specs.Settled.{RunRows};
 ghost use Rattle.centre.specs.Table.{IsRun, IsStarved, IsEnding, InitEnding, ShowRow};
 ghost use Rattle.centre.specs.Talks.{TalkEnding};
 
+use crate::covering::ending_of_coverage;
 use crate::ending::{Refusal, Stop};
 use crate::fetching::ending_of_fetch;
 use crate::help::text_shown;
@@ -20,14 +22,15 @@ use crate::stops::{ending_of_drill, ending_of_serve, ending_of_talk, stop_for_fo
 use crate::telling::{out_of_memory, tell_stop};
 use archive_log::Archive;
 use archive_state::Limits;
+use centre_coverage::{Covered, coverage};
 use centre_drill::{Drilled, drill};
 use centre_fetch::fetch;
 use centre_serve::{Served, Worker, ports_of, serve};
 use centre_session::{Clock, Trail};
 use centre_talk::{Talked, talk};
 use command_words::{
-    CommandWords, DrillArguments, FetchArguments, InitArguments, LimitArguments, ServeArguments,
-    TalkArguments, command_in,
+    CommandWords, CoverageArguments, DrillArguments, FetchArguments, InitArguments, LimitArguments,
+    ServeArguments, TalkArguments, command_in,
 };
 use disk_model::Disk;
 use exact_time::OutOfMemory;
@@ -226,6 +229,30 @@ fn obtain<S: Source, K: Sink, D: Disk, C: Clock, P: Port + Drop>(
     }
 }
 
+// The command `coverage`: the report of what the archive of the disk holds.
+fn cover<S: Source, K: Sink, D: Disk, C: Clock, P: Port + Drop>(
+    alloc: Global,
+    arguments: &CoverageArguments,
+    source: &S,
+    sink: &mut K,
+    disk: D,
+    clock: &C,
+    ports: Vec<P>,
+) -> Done<D, P>
+    ensures row { CoverageEnding D.view (coverage_words_at arguments.now)
+        (world (S.view source.now) (K.view sink.old) disk (C.given clock.now) None (map P.view ports.items))
+        (world (S.view source.now) (K.view sink.new) result.disk (C.given clock.now) result.trail (map P.view result.ports.items))
+        result.ending }
+{
+    let Covered { ending, disk } = coverage(alloc, arguments, sink, disk);
+    Done {
+        ending: ending_of_coverage(ending),
+        disk,
+        trail: None,
+        ports,
+    }
+}
+
 // Does what a command says.
 fn obey_command<
     R: Threads + Wait + Sync,
@@ -290,6 +317,10 @@ fn obey_command<
         Some(CommandWords::Fetch(arguments)) => {
             let ports = ports_of(workers, room);
             obtain(alloc, &arguments, source, sink, disk, clock, ports)
+        }
+        Some(CommandWords::Coverage(arguments)) => {
+            let ports = ports_of(workers, room);
+            cover(alloc, &arguments, source, sink, disk, clock, ports)
         }
         Some(CommandWords::Serve(arguments)) => host(
             rt, alloc, &arguments, secret, source, sink, disk, clock, workers, room,
@@ -362,12 +393,12 @@ pub struct Ended<D: Disk, P> {
 /// |---|---|
 /// | 0 | the sink got the whole answer; `init` and `drill` left the new archive on the disk; the session of `talk` was served to its end; every port of `serve` was closed |
 /// | 1 | the words are no command |
-/// | 2 | a word of the query, or a record of the input, is refused |
-/// | 3 | no record is picked, or no bytes were fetched |
+/// | 2 | a word of the query or of the days, or a record of the input, is refused |
+/// | 3 | no record is picked, no bytes were fetched, or nothing of the days of `coverage` is covered |
 /// | 4 | the answer is longer than the limit |
 /// | 5, 6, 7 | the source, the sink, the disk failed; in `talk` and `serve` the disk stopped a command |
 /// | 8 | the port of a worker of `serve`, or that of `fetch`, failed |
-/// | 9 | the file that `init` or `drill` is to make the archive in has bytes, or that which `talk` or `serve` is to open is no archive |
+/// | 9 | the file that `init` or `drill` is to make the archive in has bytes, or that which `talk`, `serve` or `coverage` is to open is no archive |
 /// | 10 | the input is longer than 67,108,864 bytes |
 /// | 11 | the input of `talk` ended inside a request |
 /// | 13 | the data centre that `fetch` asks answered a status that is no answer |

@@ -21,6 +21,14 @@ fn damage_text(alloc: Global, at: u64) -> Result<String, AllocError>
     Ok(text)
 }
 
+fn lines_text(alloc: Global, lines: u64, limit: u64) -> Result<String, AllocError>
+    ensures { IfOk result (λ text. string_bytes text ≡ text_of_refusal (Refusal.TooManyLines lines limit)) }
+{
+    let mut text = format!(in alloc; "centre: {lines} lines exceed {limit}")?;
+    text.push_str("\n")?;
+    Ok(text)
+}
+
 fn peer_text(alloc: Global, status: u16) -> Result<String, AllocError>
     ensures { IfOk result (λ text. string_bytes text ≡ text_of_refusal (Refusal.Peer status)) }
 {
@@ -85,6 +93,9 @@ fn tell_refusal<E: Sink>(alloc: Global, errors: &mut E, refusal: Refusal) -> Sto
         }
         Refusal::InputTooLong => {
             return tell_select(alloc, errors, SelectRefusal::InputTooLong);
+        }
+        Refusal::TooManyLines { lines, limit } => {
+            return tell_made(errors, refusal, lines_text(alloc, lines, limit));
         }
         Refusal::Damaged(at) => {
             return tell_made(errors, refusal, damage_text(alloc, at));

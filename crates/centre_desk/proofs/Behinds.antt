@@ -28,10 +28,9 @@ use Rattle.service_paths.specs.declared.page.Access.{Access}
 use Rattle.service_paths.specs.declared.page.Page.{Page}
 use Rattle.service_paths.specs.declared.page.Page.TheVariants as page
 use Rattle.desk_words.specs.Counts.{RoseAtLeast}
-use Rattle.desk_words.specs.Outcomes.{asked_as, wanted_outcome}
+use Rattle.desk_words.specs.Outcomes.{asked_as, answer_to}
 use Rattle.desk_words.specs.Posting.{ruling}
 use Rattle.desk_words.specs.Setting.{Setting}
-use Rattle.desk_words.specs.Visible.{visible}
 use Rattle.desk_words.specs.declared.asking.Outcome.{Outcome}
 use Rattle.desk_words.specs.declared.asking.Outcome.TheVariants as outcome
 use Rattle.desk_words.specs.declared.asking.Wanted.{Wanted}
@@ -113,18 +112,20 @@ enough_large (wanted.Spans q) n limits = refl
 enough_large (wanted.Extent q) n limits = refl
 enough_large (wanted.Station q) n limits = refl
 enough_large (wanted.Event q) n limits = refl
+enough_large (wanted.Entries from) n limits = refl
 
 enough_answer : (w : Wanted) (limits : Limits) (o : Outcome) → is_behind (told_answer w limits o) ≡ false
 enough_answer w limits outcome.Behind = refl
 enough_answer w limits (outcome.Denied d) = refl
 enough_answer w limits outcome.Known = refl
+enough_answer w limits outcome.NoRole = refl
 enough_answer w limits outcome.Empty = enough_empty (nodata_of w)
 enough_answer w limits (outcome.TooLarge n) = enough_large w n limits
 enough_answer w limits (outcome.Body bytes) = refl
 
 enough_user : (h : List Entry) (s : Setting) (asked : Result Wanted QueryFault) (user : Option Text) → is_behind (told_user h s asked user) ≡ false
 enough_user h s (Err f) user = refl
-enough_user h s (Ok w) user = enough_answer w s.limits (wanted_outcome (visible h user) s.limits w)
+enough_user h s (Ok w) user = enough_answer w s.limits (answer_to h s.limits user w)
 
 enough_caller : (h : List Entry) (s : Setting) (asked : Result Wanted QueryFault) (asker : Result (Option Text) Denial) → is_behind (told_caller h s asked asker) ≡ false
 enough_caller h s asked (Err d) = refl

@@ -8,7 +8,7 @@ use Rattle.exact_time.specs.declared.moment.Moment.{Moment}
 use Rattle.archive_entry.specs.declared.entry.Kind.{Kind}
 use Rattle.desk_words.specs.Posting.{can_be_posted}
 use Rattle.http_wire.specs.declared.request.Request.{Request}
-use Rattle.query_words.specs.FeedGet.{IsFeedGet}
+use Rattle.query_words.specs.NumberGet.{IsNumberGet, seq}
 use Rattle.centre_desk.specs.Replies.{posted_as}
 use Rattle.query_parameters.specs.declared.fault.QueryFault.{QueryFault}
 use Rattle.query_parameters.specs.declared.fault.QueryFault.TheVariants.{OutOfMemory}
@@ -20,8 +20,8 @@ is_answer {V} IsValue IsFault law result is =
     ⊎_elim (λ (memory : IsErrOf result OutOfMemory). inl memory) (λ (only : IsOnly IsValue IsFault result). inr (law.1.only result only.right)) is
 
 -- a sequence number is from 1 to 10^18
-pub bounded : (query : List ℕ) (result : Result ℕ QueryFault) → IfOk result (IsFeedGet query) → IfOk result (λ seq. (1 ≤ seq) × (seq ≤ 1_000_000_000_000_000_000))
-bounded query (Ok seq) is = (is.number_is.count.some, is.number_is.small)
+pub bounded : (query : List ℕ) (result : Result ℕ QueryFault) → IfOk result (IsNumberGet seq query) → IfOk result (λ n. (1 ≤ n) × (n ≤ 1_000_000_000_000_000_000))
+bounded query (Ok n) is = (is.number_is.count.some, is.number_is.small)
 bounded query (Err f) is = is
 
 -- a command under such a number can be posted

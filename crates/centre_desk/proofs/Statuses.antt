@@ -22,10 +22,9 @@ use Rattle.service_paths.specs.Paths.{page_of, methods_of, is_allowed, path_of, 
 use Rattle.service_paths.specs.declared.page.Access.{Access}
 use Rattle.service_paths.specs.declared.page.Page.{Page}
 use Rattle.service_paths.specs.declared.page.Page.TheVariants as page
-use Rattle.desk_words.specs.Outcomes.{asked_as, wanted_outcome}
+use Rattle.desk_words.specs.Outcomes.{asked_as, answer_to}
 use Rattle.desk_words.specs.Posting.{ruling}
 use Rattle.desk_words.specs.Setting.{Setting}
-use Rattle.desk_words.specs.Visible.{visible}
 use Rattle.desk_words.specs.declared.asking.Outcome.{Outcome}
 use Rattle.desk_words.specs.declared.asking.Outcome.TheVariants as outcome
 use Rattle.desk_words.specs.declared.asking.Wanted.{Wanted}
@@ -61,18 +60,20 @@ going_large (wanted.Spans q) n limits = refl
 going_large (wanted.Extent q) n limits = refl
 going_large (wanted.Station q) n limits = refl
 going_large (wanted.Event q) n limits = refl
+going_large (wanted.Entries from) n limits = refl
 
 going_answer : (w : Wanted) (limits : Limits) (o : Outcome) → IsGoing (told_answer w limits o)
 going_answer w limits outcome.Behind = refl
 going_answer w limits (outcome.Denied d) = going_denial d
 going_answer w limits outcome.Known = refl
+going_answer w limits outcome.NoRole = refl
 going_answer w limits outcome.Empty = going_empty _
 going_answer w limits (outcome.TooLarge n) = going_large w n limits
 going_answer w limits (outcome.Body bytes) = refl
 
 going_user : (h : List Entry) (s : Setting) (asked : Result Wanted QueryFault) (user : Option Text) → IsGoing (told_user h s asked user)
 going_user h s (Err f) user = refl
-going_user h s (Ok w) user = going_answer w s.limits (wanted_outcome (visible h user) s.limits w)
+going_user h s (Ok w) user = going_answer w s.limits (answer_to h s.limits user w)
 
 going_caller : (h : List Entry) (s : Setting) (asked : Result Wanted QueryFault) (asker : Result (Option Text) Denial) → IsGoing (told_caller h s asked asker)
 going_caller h s asked (Err d) = going_denial d

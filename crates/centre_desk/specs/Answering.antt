@@ -49,6 +49,7 @@ abbrev pub told_by : Option QueryFault → Question → Limits → ℕ → Outco
 told_by f q limits front outcome.Behind = Refused (fault.Behind q.least front)
 told_by f q limits front (outcome.Denied d) = Refused (fault.Denied d)
 told_by f q limits front outcome.Known = told_known f
+told_by f q limits front outcome.NoRole = Refused fault.Role
 told_by f q limits front outcome.Empty = told_empty (nodata_of q.wanted)
 told_by f q limits front (outcome.TooLarge n) = Refused (too_large q.wanted n limits)
 told_by f q limits front (outcome.Body bytes) = Body (kind_of q.wanted) bytes

@@ -12,10 +12,9 @@ use Rattle.archive_state.specs.History.{live_of, may_post}
 use Rattle.archive_state.specs.Verdicts.{is_kind}
 use Rattle.archive_state.specs.declared.posted.Posted.{Posted}
 use Rattle.query_parameters.specs.declared.fault.QueryFault.{QueryFault}
-use Rattle.desk_words.specs.Outcomes.{asked_as, wanted_outcome}
+use Rattle.desk_words.specs.Outcomes.{asked_as, answer_to}
 use Rattle.desk_words.specs.Posting.{ruling, posted_entry, added_by}
 use Rattle.desk_words.specs.Setting.{Setting}
-use Rattle.desk_words.specs.Visible.{visible}
 use Rattle.desk_words.specs.declared.asking.Wanted.{Wanted}
 use Rattle.http_replies.specs.declared.reply.BodyKind.TheVariants.{Plain}
 use Rattle.http_wire.specs.FieldPairs.{as_pair}
@@ -54,7 +53,7 @@ pub record FeedRows (s : Setting) (h : List Entry) (r : Request) (m : Moment) (a
       → Tells s h r m added (told_verdict s.limits (ruling (judged_over h added) (posted_as r kind seq) m s))
 
 -- on a query path a bad field X-Archive-Front, that there are too few entries, the denial, the fault of the query, and
--- then the answer over what the one who asks may see
+-- then the answer to the one who asks
 pub record QueryRows (s : Setting) (h : List Entry) (r : Request) (m : Moment) (added : Bool) (asked : Asked) (access : Access) : Type 0 where
   pub bad_front : front_asked (map as_pair r.headers) ≡ None → Tells s h r m added (Refused fault.BadFront)
   pub behind : (least : ℕ) → front_asked (map as_pair r.headers) ≡ Some least → nat_lt (length h) least ≡ true
@@ -67,7 +66,7 @@ pub record QueryRows (s : Setting) (h : List Entry) (r : Request) (m : Moment) (
   pub answer : (least : ℕ) (user : Option Text) (w : Wanted) → front_asked (map as_pair r.headers) ≡ Some least → nat_lt (length h) least ≡ false
       → asked_as (live_of h) (credentials_by access r) m s.secret ≡ Ok user
       → wanted_of asked r.method (query_of r.target) r.body ≡ Ok w
-      → Tells s h r m added (told_answer w s.limits (wanted_outcome (visible h user) s.limits w))
+      → Tells s h r m added (told_answer w s.limits (answer_to h s.limits user w))
 
 -- ---- a command that is posted again
 

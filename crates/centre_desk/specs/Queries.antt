@@ -9,17 +9,18 @@ use Rattle.query_parameters.specs.declared.fault.QueryFault.{QueryFault}
 use Rattle.query_parameters.specs.declared.fault.QueryFault.TheVariants.{OutOfScope, OutOfMemory}
 use Rattle.query_words.proofs.AvailFound as avail
 use Rattle.query_words.proofs.EventFound as event
-use Rattle.query_words.proofs.Feeds as feed
 use Rattle.query_words.proofs.GetFound as get
+use Rattle.query_words.proofs.Numbers as number
 use Rattle.query_words.proofs.PostFound as post
 use Rattle.query_words.proofs.StationFound as station
+use Rattle.query_words.specs.NumberGet.{seq, from}
 use Rattle.query_words.specs.declared.avail.AvailMethod.{AvailMethod}
 use Rattle.query_words.specs.declared.avail.AvailMethod.TheVariants as method
 use Rattle.query_words.specs.declared.avail.AvailQuery.{AvailQuery}
 use Rattle.query_words.specs.declared.event.EventQuery.{EventQuery}
 use Rattle.query_words.specs.declared.station.StationQuery.{StationQuery}
 use Rattle.desk_words.specs.declared.asking.Wanted.{Wanted}
-use Rattle.desk_words.specs.declared.asking.Wanted.TheVariants.{Nothing, Waves, Spans, Extent, Station, Event}
+use Rattle.desk_words.specs.declared.asking.Wanted.TheVariants.{Nothing, Waves, Spans, Extent, Station, Event, Entries}
 use Rattle.service_paths.specs.declared.page.Asked.{Asked}
 use Rattle.service_paths.specs.declared.page.Asked.TheVariants as asked
 
@@ -47,7 +48,11 @@ event_got text = (event.get_or_fault text).0
 
 -- the sequence number of a command
 unfoldable pub seq_got : Text → Result ℕ QueryFault
-seq_got text = (feed.get_or_fault text).0
+seq_got text = (number.get_or_fault seq text).0
+
+-- the number of the first entry that is wanted
+unfoldable pub from_got : Text → Result ℕ QueryFault
+from_got text = (number.get_or_fault from text).0
 
 -- a reader's answer, or want of memory
 abbrev pub IsAnswer : {A : Type 0} → Result A QueryFault → Result A QueryFault → Type 0
@@ -79,13 +84,14 @@ avail_of method way query body = by_method (is_post way) query (avail_got method
 abbrev pub station_of : List ℕ → Text → Text → Result StationQuery QueryFault
 station_of way query body = by_method (is_post way) query (station_got query) (station_sent body)
 
--- what is wanted by a method, a query string and a body, or the fault of the query; events have no body
+-- what is wanted by a method, a query string and a body, or the fault of the query; events and entries have no body
 abbrev pub wanted_of : Asked → List ℕ → Text → Text → Result Wanted QueryFault
 wanted_of asked.Records way query body = wanted_as Waves (data_of way query body)
 wanted_of asked.Spans way query body = wanted_as Spans (avail_of method.Spans way query body)
 wanted_of asked.Extents way query body = wanted_as Extent (avail_of method.Extent way query body)
 wanted_of asked.Stations way query body = wanted_as Station (station_of way query body)
 wanted_of asked.Events way query body = wanted_as Event (event_got query)
+wanted_of asked.Entries way query body = wanted_as Entries (from_got query)
 
 -- how the query wants to be told that there is nothing
 abbrev pub nodata_of : Wanted → Nodata
@@ -95,6 +101,7 @@ nodata_of (Spans q) = q.nodata
 nodata_of (Extent q) = q.nodata
 nodata_of (Station q) = q.nodata
 nodata_of (Event q) = q.nodata
+nodata_of (Entries n) = Quiet
 
 -- what a question wants: nothing, where the query has a fault
 abbrev pub wanted_or_nothing : Result Wanted QueryFault → Wanted

@@ -13,16 +13,15 @@ use Rattle.archive_state.specs.declared.verdict.Verdict.TheVariants as verdict
 use Rattle.dataselect.specs.declared.query.Nodata.{Nodata}
 use Rattle.dataselect.specs.declared.query.Nodata.TheVariants.{Quiet, NotFound}
 use Rattle.query_parameters.specs.declared.fault.QueryFault.{QueryFault}
-use Rattle.desk_words.specs.Outcomes.{asked_as, wanted_outcome}
+use Rattle.desk_words.specs.Outcomes.{asked_as, answer_to}
 use Rattle.desk_words.specs.Posting.{ruling}
 use Rattle.desk_words.specs.Setting.{Setting}
-use Rattle.desk_words.specs.Visible.{visible}
 use Rattle.desk_words.specs.declared.asking.Outcome.{Outcome}
 use Rattle.desk_words.specs.declared.asking.Outcome.TheVariants as outcome
 use Rattle.desk_words.specs.declared.asking.Wanted.{Wanted}
 use Rattle.desk_words.specs.declared.asking.Wanted.TheVariants as wanted
 use Rattle.http_replies.specs.declared.reply.BodyKind.{BodyKind}
-use Rattle.http_replies.specs.declared.reply.BodyKind.TheVariants.{Miniseed, Plain}
+use Rattle.http_replies.specs.declared.reply.BodyKind.TheVariants.{Miniseed, Plain, Octets}
 use Rattle.http_replies.specs.declared.reply.Reply.{Reply}
 use Rattle.http_wire.specs.FieldPairs.{as_pair}
 use Rattle.http_wire.specs.declared.request.Request.{Request}
@@ -43,17 +42,20 @@ abbrev pub told_empty : Nodata → Told
 told_empty Quiet = Nothing
 told_empty NotFound = Refused fault.NoData
 
--- records are bytes of miniSEED; the other answers are lines of text
+-- records are bytes of miniSEED, entries other bytes; the other answers are lines of text
 abbrev pub kind_of : Wanted → BodyKind
 kind_of (wanted.Waves q) = Miniseed
+kind_of (wanted.Entries from) = Octets
 kind_of _ = Plain
 
 abbrev pub too_large : Wanted → ℕ → Limits → Fault
 too_large (wanted.Waves q) n limits = fault.ManyBytes n limits.max_bytes
+too_large (wanted.Entries from) n limits = fault.ManyBytes n limits.max_bytes
 too_large _ n limits = fault.ManyLines n limits.max_lines
 
--- what an answer to a query is told as: no data, too large, or the body. A query has no other answer.
+-- what an answer to a query is told as: no role, no data, too large, or the body. A query has no other answer.
 abbrev pub told_answer : Wanted → Limits → Outcome → Told
+told_answer w limits outcome.NoRole = Refused fault.Role
 told_answer w limits outcome.Empty = told_empty (nodata_of w)
 told_answer w limits (outcome.TooLarge n) = Refused (too_large w n limits)
 told_answer w limits (outcome.Body bytes) = Body (kind_of w) bytes
@@ -61,10 +63,10 @@ told_answer w limits outcome.Behind = Nothing
 told_answer w limits (outcome.Denied d) = Refused (fault.Denied d)
 told_answer w limits outcome.Known = Nothing
 
--- the fault of the query, or its answer over what this user may see
+-- the fault of the query, or its answer to this user
 abbrev pub told_user : List Entry → Setting → Result Wanted QueryFault → Option Text → Told
 told_user h s (Err f) user = Refused (fault.Query f)
-told_user h s (Ok w) user = told_answer w s.limits (wanted_outcome (visible h user) s.limits w)
+told_user h s (Ok w) user = told_answer w s.limits (answer_to h s.limits user w)
 
 -- the denial, or what the one who asks is told
 abbrev pub told_caller : List Entry → Setting → Result Wanted QueryFault → Result (Option Text) Denial → Told
@@ -72,7 +74,7 @@ told_caller h s asked (Err d) = Refused (fault.Denied d)
 told_caller h s asked (Ok user) = told_user h s asked user
 
 -- On a query path: a bad field X-Archive-Front; that there are fewer entries than it asks for; the denial; the fault of
--- the query; no data; too large; the body.
+-- the query; that the user may not copy the archive; no data; too large; the body.
 abbrev pub told_query : List Entry → Request → Moment → Setting → Access → Result Wanted QueryFault → Option ℕ → Told
 told_query h r moment s access asked None = Refused fault.BadFront
 told_query h r moment s access asked (Some least) =

@@ -39,6 +39,7 @@ fn kind_of(wanted: &Wanted) -> BodyKind
 {
     match wanted {
         Wanted::Waves(_) => BodyKind::Miniseed,
+        Wanted::Entries { .. } => BodyKind::Octets,
         _ => BodyKind::Plain,
     }
 }
@@ -47,7 +48,7 @@ fn too_large(wanted: &Wanted, size: u64, limits: &Limits) -> Fault
     ensures { result ≡ too_large wanted.now size limits.now }
 {
     match wanted {
-        Wanted::Waves(_) => Fault::ManyBytes {
+        Wanted::Waves(_) | Wanted::Entries { .. } => Fault::ManyBytes {
             bytes: size,
             most: limits.max_bytes,
         },
@@ -79,6 +80,7 @@ fn told_by(
             Some(fault) => Told::Refused(Fault::Query(fault)),
             None => Told::Nothing,
         },
+        Outcome::NoRole => Told::Refused(Fault::Role),
         Outcome::Empty => told_empty(nodata_of(&question.wanted)),
         Outcome::TooLarge(size) => Told::Refused(too_large(&question.wanted, size, limits)),
         Outcome::Body(bytes) => Told::Body {

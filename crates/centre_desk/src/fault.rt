@@ -28,7 +28,7 @@ pub enum Fault {
     Query(QueryFault),
     /// The credentials name no user.
     Denied(Denial),
-    /// The user may not post this.
+    /// The user may not post this, or may not copy the archive.
     Role,
     /// The user's entry of that number has the same sequence number, and another kind or body.
     OtherBody(u64),

@@ -1,13 +1,13 @@
 //! What a query path is asked for.
 ghost use Rattle.std.specs.Prelude.{◌≡◌, ◌≤◌, IfOk};
-ghost use Rattle.centre_desk.specs.Queries.{data_got, data_sent, avail_got, avail_sent, station_got, station_sent, event_got, seq_got, data_of, avail_of, station_of, wanted_of, nodata_of, is_post, IsAnswer};
+ghost use Rattle.centre_desk.specs.Queries.{data_got, data_sent, avail_got, avail_sent, station_got, station_sent, event_got, seq_got, from_got, data_of, avail_of, station_of, wanted_of, nodata_of, is_post, IsAnswer};
 
 use dataselect::{DataQuery, Nodata};
 use desk_words::Wanted;
 use exact_time::OutOfMemory;
 use query_words::{
     AvailMethod, AvailQuery, EventQuery, QueryFault, StationQuery, avail_get, avail_post, data_get,
-    data_post, event_get, feed_get, station_get, station_post,
+    data_post, entries_get, event_get, feed_get, station_get, station_post,
 };
 use service_paths::Asked;
 use std::alloc::Global;
@@ -52,6 +52,13 @@ fn event_got(alloc: Global, query: &[u8]) -> Result<EventQuery, QueryFault>
     ensures { IsAnswer (event_got query.now) result }
 {
     event_get(alloc, query)
+}
+
+// The number of the first entry that is wanted.
+fn from_got(alloc: Global, query: &[u8]) -> Result<u64, QueryFault>
+    ensures { IsAnswer (from_got query.now) result }
+{
+    entries_get(alloc, query)
 }
 
 // The sequence number of a command.
@@ -154,6 +161,10 @@ fn wanted(
         }
         Asked::Stations => Ok(Wanted::Station(station_read(alloc, method, query, body)?)),
         Asked::Events => Ok(Wanted::Event(event_got(alloc, query)?)),
+        Asked::Entries => {
+            let from = from_got(alloc, query)?;
+            Ok(Wanted::Entries { from })
+        }
     }
 }
 
@@ -180,7 +191,7 @@ pub(crate) fn nodata_of(wanted: &Wanted) -> Nodata
     ensures { result ≡ nodata_of wanted.now }
 {
     match wanted {
-        Wanted::Nothing => Nodata::Quiet,
+        Wanted::Nothing | Wanted::Entries { .. } => Nodata::Quiet,
         Wanted::Waves(query) => query.nodata,
         Wanted::Spans(query) | Wanted::Extent(query) => query.nodata,
         Wanted::Station(query) => query.nodata,

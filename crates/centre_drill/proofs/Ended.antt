@@ -4,14 +4,18 @@ use Rattle.std.proofs.lemmas.List.{append-nil}
 use Rattle.disk_model.specs.View.{DiskView, IsHonest, WhereTold, DiskRun}
 use Rattle.archive_entry.specs.declared.entry.Entry.{Entry}
 use Rattle.archive_log.specs.Archive.{Stands}
+use Rattle.archive_state.specs.History.{arrived_of}
 use Rattle.archive_post.specs.Waiting.{committed}
 use Rattle.archive_post.specs.declared.kept.Intake.{Intake}
 use Rattle.streams.specs.View.{StreamView}
 use Rattle.centre_drill.specs.Drill.{DrillRow, IsArchiveMade, TellsFigures}
+use Rattle.centre_drill.specs.Figures.{figures_of, figures_with}
 use Rattle.centre_drill.specs.History.{made_history}
 use Rattle.centre_drill.specs.Making.{Begins, IsSilentStop, IsUnderWay}
 use Rattle.centre_drill.specs.declared.ending.DrillStop.{DrillStop}
 use Rattle.centre_drill.specs.declared.ending.DrillStop.TheVariants.{WriteFault, DiskFault, NotEmpty, OutOfMemory}
+use Rattle.centre_drill.specs.declared.figures.Figures.{Figures}
+use Rattle.centre_drill.proofs.AllHeld.{all_held}
 use Rattle.centre_drill.proofs.Steps.{holds}
 
 -- no archive was made
@@ -48,9 +52,12 @@ module _ {D T : Type 0} (view : D → DiskView) (count : ℕ) (before : DiskView
   run : DiskRun before (view left) ⊥ (IsArchiveMade count before (view left))
   run = subst (λ (d : D). DiskRun before (view d) ⊥ (IsArchiveMade count before (view d))) (sym left_is) made_run
 
-  pub made_row : (sink sunk : StreamView) (ending : Result (Unit {0}) DrillStop) → TellsFigures state sink sunk ending → DrillRow count sink sunk before (view left) ending
-  made_row sink sunk (Ok done) told = record { made = run; told = subst (λ (h : List Entry). TellsFigures h sink sunk (Ok done)) state_is told }
-  made_row sink sunk (Err WriteFault) told = record { made = run; told = subst (λ (h : List Entry). TellsFigures h sink sunk (Err WriteFault)) state_is told }
+  figures_are : figures_with state (arrived_of state) ≡ figures_of (made_history count)
+  figures_are = (λ i. figures_with (state_is i) (arrived_of (state_is i))) ∙ ap (figures_with (made_history count)) (sym (all_held count))
+
+  pub made_row : (sink sunk : StreamView) (ending : Result (Unit {0}) DrillStop) → TellsFigures (figures_with state (arrived_of state)) sink sunk ending → DrillRow count sink sunk before (view left) ending
+  made_row sink sunk (Ok done) told = record { made = run; told = subst (λ (f : Figures). TellsFigures f sink sunk (Ok done)) figures_are told }
+  made_row sink sunk (Err WriteFault) told = record { made = run; told = subst (λ (f : Figures). TellsFigures f sink sunk (Err WriteFault)) figures_are told }
   made_row sink sunk (Err OutOfMemory) told = record { silent = told; run = record { tells = run.tells; later = run.later; cause = λ failed. absurd failed; told = λ t. tt } }
   made_row sink sunk (Err DiskFault) told = absurd told
   made_row sink sunk (Err (NotEmpty len)) told = absurd told

@@ -1,4 +1,5 @@
 mod Accepted
+mod AllHeld
 mod Begun
 mod Counts
 mod Ended

@@ -12,6 +12,7 @@ use Rattle.streams.specs.Effects.{Grew, WritesPart}
 use Rattle.centre_drill.specs.Figures.{figures_of, figures_text}
 use Rattle.centre_drill.specs.History.{made_history}
 use Rattle.centre_drill.specs.Making.{IsKept}
+use Rattle.centre_drill.specs.declared.figures.Figures.{Figures}
 use Rattle.centre_drill.specs.declared.ending.DrillStop.{DrillStop}
 use Rattle.centre_drill.specs.declared.ending.DrillStop.TheVariants.{WriteFault, DiskFault, NotEmpty, OutOfMemory}
 
@@ -21,13 +22,13 @@ stop_for_founding found.DiskFault = DiskFault
 stop_for_founding (found.NotEmpty length) = NotEmpty length
 stop_for_founding found.OutOfMemory = OutOfMemory
 
--- the figures of a history were written, or a first part of them where the sink failed; with no other stop anything was
-abbrev pub TellsFigures : List Entry → StreamView → StreamView → Result (Unit {0}) DrillStop → Type 0
-TellsFigures h old new (Ok done) = Grew old.written new.written (figures_text (figures_of h))
-TellsFigures h old new (Err WriteFault) =
-    Rose old.faults new.faults × WritesPart old.written new.written (figures_text (figures_of h))
-TellsFigures h old new (Err OutOfMemory) = new ≡ old
-TellsFigures h old new (Err _) = ⊥
+-- figures were written, or a first part of them where the sink failed; with no other stop anything was
+abbrev pub TellsFigures : Figures → StreamView → StreamView → Result (Unit {0}) DrillStop → Type 0
+TellsFigures figures old new (Ok done) = Grew old.written new.written (figures_text figures)
+TellsFigures figures old new (Err WriteFault) =
+    Rose old.faults new.faults × WritesPart old.written new.written (figures_text figures)
+TellsFigures figures old new (Err OutOfMemory) = new ≡ old
+TellsFigures figures old new (Err _) = ⊥
 
 -- the file is a journal of this history, and so is every image
 pub record HoldsHistory (view : DiskView) (h : List Entry) : Type 0 where
@@ -42,7 +43,7 @@ pub record IsArchiveMade (count : ℕ) (old new : DiskView) : Type 0 where
 -- all is done, or the sink failed when the archive was made: it is on the disk
 pub record HasDrilled (count : ℕ) (sink sunk : StreamView) (disk left : DiskView) (ending : Result (Unit {0}) DrillStop) : Type 0 where
   pub made : DiskRun disk left ⊥ (IsArchiveMade count disk left)
-  pub told : TellsFigures (made_history count) sink sunk ending
+  pub told : TellsFigures (figures_of (made_history count)) sink sunk ending
 
 -- nothing was written on the sink; the disk failed where this is so, and else this is so, where it tells
 pub record HasStopped (sink sunk : StreamView) (disk left : DiskView) (Failed Told : Type 0) : Type 0 where

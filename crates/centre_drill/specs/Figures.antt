@@ -42,16 +42,20 @@ all_seen row = true
 abbrev pub spans_of : List Row → List SpanValue
 spans_of rows = flat_map (λ name. merged_spans_of name rows) (names_of (selection_of (codes "*") (codes "*")) rows)
 
--- The entries; the records that are held, and their bytes; their merged spans; and the bytes that the query for the
--- network XX and the station S0 answers.
-abbrev pub figures_of : List Entry → Figures
-figures_of h = record {
+-- The entries; some records, and their bytes; their merged spans; and the bytes that the query for the network XX and the
+-- station S0 answers.
+abbrev pub figures_with : List Entry → List Row → Figures
+figures_with h rows = record {
   entries = length h;
-  records = length (held_of h);
-  bytes = length (images_of (held_of h));
-  spans = length (spans_of (held_of h));
-  selected = length (data_body all_seen one_station (held_of h));
+  records = length rows;
+  bytes = length (images_of rows);
+  spans = length (spans_of rows);
+  selected = length (data_body all_seen one_station rows);
 }
+
+-- those of the records that are held
+abbrev pub figures_of : List Entry → Figures
+figures_of h = figures_with h (held_of h)
 
 -- each on a line
 abbrev pub line_of : List ℕ → ℕ → List ℕ

@@ -1,7 +1,8 @@
 //! Makes an archive of made records, and tells what is counted of it.
 ghost use Rattle.std.specs.Prelude.{◌≡◌, ◌++◌, ◌≤◌, string_bytes, IfOk, OnOk};
+ghost use Rattle.archive_state.specs.History.{arrived_of};
 ghost use Rattle.centre_drill.specs.Drill.{DrillRow, TellsFigures};
-ghost use Rattle.centre_drill.specs.Figures.{figures_of, figures_text, line_of};
+ghost use Rattle.centre_drill.specs.Figures.{figures_text, figures_with, line_of};
 
 use crate::ending::DrillStop;
 use crate::figures::Figures;
@@ -32,9 +33,9 @@ fn text_of(alloc: Global, figures: &Figures) -> Result<String, AllocError>
     Ok(text)
 }
 
-// The text of a state's figures.
+// The text of the figures of a state and of all records that have arrived.
 fn told(alloc: Global, state: &State) -> Result<String, OutOfMemory>
-    ensures { IfOk result (λ text. string_bytes text ≡ figures_text (figures_of state.now)) }
+    ensures { IfOk result (λ text. string_bytes text ≡ figures_text (figures_with state.now (arrived_of state.now))) }
 {
     let figures = Figures::of(alloc, state)?;
     match text_of(alloc, &figures) {
@@ -43,9 +44,9 @@ fn told(alloc: Global, state: &State) -> Result<String, OutOfMemory>
     }
 }
 
-// Writes the figures of a state.
+// Writes these figures.
 fn tell<K: Sink>(alloc: Global, state: &State, sink: &mut K) -> Result<(), DrillStop>
-    ensures { TellsFigures state.now (K.view sink.old) (K.view sink.new) result }
+    ensures { TellsFigures (figures_with state.now (arrived_of state.now)) (K.view sink.old) (K.view sink.new) result }
 {
     let text = told(alloc, state)?;
     match put_all(sink, text.as_bytes()) {

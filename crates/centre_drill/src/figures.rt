@@ -3,8 +3,9 @@ ghost use Rattle.std.specs.Prelude.{◌≡◌, ◌∷◌, [], ◌≤◌, length,
 ghost use Rattle.mseed_header.specs.Records.{images_of};
 ghost use Rattle.dataselect.specs.DataBody.{data_body};
 ghost use Rattle.dataselect.specs.MergedSpans.{value_of};
+ghost use Rattle.archive_state.specs.History.{arrived_of};
 ghost use Rattle.channel_globs.specs.PatternText.{IsPatternList};
-ghost use Rattle.centre_drill.specs.Figures.{all_seen, figures_of, one_station, selection_of, spans_of};
+ghost use Rattle.centre_drill.specs.Figures.{all_seen, figures_with, one_station, selection_of, spans_of};
 
 use archive_state::State;
 use channel_globs::{GlobFault, Part, PatternList};
@@ -112,9 +113,9 @@ fn bytes_selected<S: Shelf>(alloc: Global, shelf: &S) -> Result<u64, OutOfMemory
 }
 
 impl Figures {
-    /// Those of a state.
+    /// Those of a state and of all records that have arrived.
     pub(crate) fn of(alloc: Global, state: &State) -> Result<Figures, OutOfMemory>
-        ensures { IfOk result (λ figures. figures ≡ figures_of state.now) }
+        ensures { IfOk result (λ figures. figures ≡ figures_with state.now (arrived_of state.now)) }
     {
         let shelf = state.shelf();
         Ok(Figures {

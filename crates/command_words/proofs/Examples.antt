@@ -1,7 +1,7 @@
 -- Worked examples of whole command lines.
 use Rattle.std.proofs.Common.{◌≡◌, refl, [], ◌∷◌, Some, None, codes}
 use Rattle.clap.proofs.OnLiterals.{clap_on_literals}
-use Rattle.command_words.specs.Commands.{InitWords, TalkWords, ServeWords, DrillWords, FetchWords, init, talk, serve, drill, fetch, show, command_of}
+use Rattle.command_words.specs.Commands.{InitWords, TalkWords, ServeWords, DrillWords, FetchWords, CoverageWords, init, talk, serve, drill, fetch, coverage, show, command_of}
 use Rattle.command_words.specs.Layouts.{app_for}
 use Rattle.command_words.specs.declared.name.CommandName.TheVariants.{Talk}
 use Rattle.command_words.specs.declared.name.Shown.TheVariants.{Help, Version, HelpOf}
@@ -103,6 +103,22 @@ fetch_asked = refl
 no_peer : command_of (codes "fetch" ∷ codes "IU" ∷ codes "ANMO" ∷ codes "00" ∷ codes "BHZ" ∷ codes "2024-02-01" ∷ codes "2024-02-02" ∷ []) ≡ None
 unfolding clap_on_literals app_for
 no_peer = refl
+
+abbrev coverage_words : CoverageWords
+coverage_words = record { journal = codes "a.journal"; start = codes "2024-02-01"; end = codes "2024-02-29"; max_lines = 100_000 }
+
+-- `coverage` of a month; its last day has to be there, and 100,001 lines are too many
+coverage_asked : command_of (codes "coverage" ∷ codes "--journal=a.journal" ∷ codes "2024-02-01" ∷ codes "2024-02-29" ∷ []) ≡ Some (coverage coverage_words)
+unfolding clap_on_literals app_for
+coverage_asked = refl
+
+no_last_day : command_of (codes "coverage" ∷ codes "--journal=a.journal" ∷ codes "2024-02-01" ∷ []) ≡ None
+unfolding clap_on_literals app_for
+no_last_day = refl
+
+many_lines : command_of (codes "coverage" ∷ codes "--journal=a.journal" ∷ codes "2024-02-01" ∷ codes "2024-02-29" ∷ codes "--max-lines=100001" ∷ []) ≡ None
+unfolding clap_on_literals app_for
+many_lines = refl
 
 -- two words are no command of `select`, and help is one of each
 two_words : command_of (codes "select" ∷ codes "IU" ∷ []) ≡ None

@@ -8,7 +8,7 @@ use Rattle.clap.specs.Words.{App, Text, is_simple, matches_of, HasMatchesOf, fou
 use Rattle.clap.specs.declared.parser.matches.ArgMatches.{ArgMatches}
 use Rattle.command_words.specs.Layouts.{app_for}
 use Rattle.command_words.specs.declared.name.CommandName.{CommandName}
-use Rattle.command_words.specs.declared.name.CommandName.TheVariants.{Select, Init, Talk, Serve, Drill, Fetch}
+use Rattle.command_words.specs.declared.name.CommandName.TheVariants.{Select, Init, Talk, Serve, Drill, Fetch, Coverage}
 
 pub simple : (name : CommandName) → is_simple (app_for name) ≡ true
 unfolding app_for
@@ -18,6 +18,7 @@ simple Talk = refl
 simple Serve = refl
 simple Drill = refl
 simple Fetch = refl
+simple Coverage = refl
 
 pub free : (name : CommandName) → is_simple_and_free (app_for name) ≡ true
 unfolding app_for
@@ -27,6 +28,7 @@ free Talk = refl
 free Serve = refl
 free Drill = refl
 free Fetch = refl
+free Coverage = refl
 
 -- the values that were found are those of the definition
 pub rows_found : (a : App) (name : CommandName) (words : List Text) (m : ArgMatches) → a ≡ app_for name → HasMatchesOf a words m

@@ -1,7 +1,7 @@
 -- The commands of the program, written out.
 use Rattle.std.proofs.Common.{◌≡◌, refl, [], ◌∷◌, codes}
 use Rattle.command_words.specs.Layouts.{app_with, app_for}
-use Rattle.command_words.specs.declared.name.CommandName.TheVariants.{Select, Init, Talk, Serve, Drill, Fetch}
+use Rattle.command_words.specs.declared.name.CommandName.TheVariants.{Select, Init, Talk, Serve, Drill, Fetch, Coverage}
 
 pub select_is : app_with (codes "select") (codes "NET" ∷ codes "STA" ∷ codes "LOC" ∷ codes "CHA" ∷ codes "START" ∷ codes "END" ∷ []) []
     (codes "quality" ∷ codes "minimum" ∷ codes "longest" ∷ codes "max-bytes" ∷ []) ≡ app_for Select
@@ -29,3 +29,7 @@ pub fetch_is : app_with (codes "fetch") (codes "NET" ∷ codes "STA" ∷ codes "
     (codes "peer" ∷ []) [] ≡ app_for Fetch
 unfolding app_for
 fetch_is = refl
+
+pub coverage_is : app_with (codes "coverage") (codes "START" ∷ codes "END" ∷ []) (codes "journal" ∷ []) (codes "max-lines" ∷ []) ≡ app_for Coverage
+unfolding app_for
+coverage_is = refl

@@ -1,8 +1,9 @@
 -- The texts of the words that the code lends.
 use Rattle.command_words.specs.declared.arguments.LimitArguments.{LimitArguments}
-use Rattle.command_words.specs.Commands.{SelectWords, InitWords, LimitWords, TalkWords, ServeWords, DrillWords, FetchWords, Command, select, init, talk, serve, drill, fetch, show}
+use Rattle.command_words.specs.Commands.{SelectWords, InitWords, LimitWords, TalkWords, ServeWords, DrillWords, FetchWords, CoverageWords, Command, select, init, talk, serve, drill, fetch, coverage, show}
 use Rattle.command_words.specs.declared.arguments.CommandWords.{CommandWords}
-use Rattle.command_words.specs.declared.arguments.CommandWords.TheVariants.{Select, Init, Talk, Serve, Drill, Fetch, Show}
+use Rattle.command_words.specs.declared.arguments.CommandWords.TheVariants.{Select, Init, Talk, Serve, Drill, Fetch, Coverage, Show}
+use Rattle.command_words.specs.declared.arguments.CoverageArguments.{CoverageArguments}
 use Rattle.command_words.specs.declared.arguments.DrillArguments.{DrillArguments}
 use Rattle.command_words.specs.declared.arguments.FetchArguments.{FetchArguments}
 use Rattle.command_words.specs.declared.arguments.InitArguments.{InitArguments}
@@ -61,6 +62,9 @@ fetch_words_at a = record {
   end = a.end.now;
 }
 
+abbrev pub coverage_words_at : CoverageArguments → CoverageWords
+coverage_words_at a = record { journal = a.journal.now; start = a.start.now; end = a.end.now; max_lines = a.max_lines }
+
 abbrev pub command_at : CommandWords → Command
 command_at (Select arguments) = select (words_at arguments)
 command_at (Init arguments) = init (init_words_at arguments)
@@ -68,4 +72,5 @@ command_at (Talk arguments) = talk (talk_words_at arguments)
 command_at (Serve arguments) = serve (serve_words_at arguments)
 command_at (Drill arguments) = drill (drill_words_at arguments)
 command_at (Fetch arguments) = fetch (fetch_words_at arguments)
+command_at (Coverage arguments) = coverage (coverage_words_at arguments)
 command_at (Show shown) = show shown

@@ -66,6 +66,13 @@ pub record FetchWords : Type 0 where
   pub start : Text
   pub end : Text
 
+-- what the words of `coverage` say: the path of the journal, two positions, and how many lines its report may have
+pub record CoverageWords : Type 0 where
+  pub journal : Text
+  pub start : Text
+  pub end : Text
+  pub max_lines : ℕ
+
 -- what the program can be asked to do
 pub data Command : Type 0 where
   select : SelectWords → Command
@@ -74,6 +81,7 @@ pub data Command : Type 0 where
   serve : ServeWords → Command
   drill : DrillWords → Command
   fetch : FetchWords → Command
+  coverage : CoverageWords → Command
   show : Shown → Command
 
 abbrev pub select_words_with : List Row → ℕ → SelectWords
@@ -154,6 +162,15 @@ fetch_words_with rows = record {
 abbrev pub fetch_words_in : List Row → Option FetchWords
 fetch_words_in rows = Some (fetch_words_with rows)
 
+abbrev pub coverage_words_with : (journal start end : Text) → ℕ → CoverageWords
+coverage_words_with journal start end lines = record { journal = journal; start = start; end = end; max_lines = lines }
+
+-- the values of `coverage`, if its limit is one
+abbrev pub coverage_words_in : List Row → Option CoverageWords
+coverage_words_in rows =
+    option_map (coverage_words_with (value_or [] (codes "journal") rows) (value_or [] (codes "START") rows) (value_or [] (codes "END") rows))
+    (limit_in 100_000 (codes "max-lines") rows)
+
 -- what the words give that begin with a command's name
 abbrev pub words_of_command : CommandName → List Text → Option Command
 words_of_command name.Select words = option_map select (read_by (app_for name.Select) select_words_in words)
@@ -162,6 +179,7 @@ words_of_command name.Talk words = option_map talk (read_by (app_for name.Talk) 
 words_of_command name.Serve words = option_map serve (read_by (app_for name.Serve) serve_words_in words)
 words_of_command name.Drill words = option_map drill (read_by (app_for name.Drill) drill_words_in words)
 words_of_command name.Fetch words = option_map fetch (read_by (app_for name.Fetch) fetch_words_in words)
+words_of_command name.Coverage words = option_map coverage (read_by (app_for name.Coverage) coverage_words_in words)
 
 -- the command of a name
 abbrev pub command_named : Text → Option CommandName
@@ -171,7 +189,8 @@ command_named word =
     else (if bytes_eq word (codes "talk") then Some name.Talk
     else (if bytes_eq word (codes "drill") then Some name.Drill
     else (if bytes_eq word (codes "serve") then Some name.Serve
-    else (if bytes_eq word (codes "fetch") then Some name.Fetch else None)))))
+    else (if bytes_eq word (codes "fetch") then Some name.Fetch
+    else (if bytes_eq word (codes "coverage") then Some name.Coverage else None))))))
 
 -- a word that is a command by itself
 abbrev pub lone_command_of : Text → Option Command

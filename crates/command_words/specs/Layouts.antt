@@ -2,7 +2,7 @@
 use Rattle.std.specs.Prelude.{List, [], ◌∷◌, true, Some, fold, codes}
 use Rattle.clap.specs.Words.{App, Text, new_app, new_rule, with_rule}
 use Rattle.command_words.specs.declared.name.CommandName.{CommandName}
-use Rattle.command_words.specs.declared.name.CommandName.TheVariants.{Select, Init, Talk, Serve, Drill, Fetch}
+use Rattle.command_words.specs.declared.name.CommandName.TheVariants.{Select, Init, Talk, Serve, Drill, Fetch, Coverage}
 
 -- a position: a word by itself, which has to be there
 abbrev pub add_position : App → Text → App
@@ -24,7 +24,8 @@ app_with name positions required options =
 -- `select NET STA LOC CHA START END` with `--quality`, `--minimum`, `--longest` and `--max-bytes`; `init` with `--journal`,
 -- `--operator` and `--ha1`; `talk` with `--journal` and its limits; `drill N` with `--journal`;
 -- `serve` with `--journal`, `--listen`, `--workers`, `--sessions` and the limits of `talk`;
--- `fetch NET STA LOC CHA START END` with `--peer`
+-- `fetch NET STA LOC CHA START END` with `--peer`;
+-- `coverage START END` with `--journal` and `--max-lines`
 unfoldable pub app_for : CommandName → App
 app_for Select =
     app_with (codes "select") (codes "NET" ∷ codes "STA" ∷ codes "LOC" ∷ codes "CHA" ∷ codes "START" ∷ codes "END" ∷ []) []
@@ -39,3 +40,4 @@ app_for Serve =
 app_for Drill = app_with (codes "drill") (codes "N" ∷ []) (codes "journal" ∷ []) []
 app_for Fetch =
     app_with (codes "fetch") (codes "NET" ∷ codes "STA" ∷ codes "LOC" ∷ codes "CHA" ∷ codes "START" ∷ codes "END" ∷ []) (codes "peer" ∷ []) []
+app_for Coverage = app_with (codes "coverage") (codes "START" ∷ codes "END" ∷ []) (codes "journal" ∷ []) (codes "max-lines" ∷ [])

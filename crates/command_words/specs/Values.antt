@@ -1,7 +1,7 @@
 -- What the words give under a name.
 use Rattle.std.specs.Prelude.{◌≡◌, ◌≢◌, ℕ, List, [], ◌∷◌, if◌then◌else◌, Option, None, Some}
 use Rattle.query_parameters.specs.Gets.{text_or}
-use Rattle.query_parameters.specs.Values.{whole_of}
+use Rattle.exact_time.specs.Decimals.{whole_of}
 use Rattle.command_words.specs.Limits.{is_limit}
 use Rattle.clap.specs.Words.{App, Kinds, Row, Text, fault_of, first_of, found_of, matches_of, rows_of}
 use Rattle.clap.specs.declared.parser.matches.ArgMatches.{ArgMatches}

@@ -99,6 +99,18 @@ pub struct FetchArguments<'a> {
     pub end: &'a str,
 }
 
+/// The words of `coverage` behind its name: its positions, and what its options say.
+#[derive(Clone, Copy)]
+pub struct CoverageArguments<'a> {
+    /// The path of the journal.
+    pub journal: &'a str,
+    pub start: &'a str,
+    pub end: &'a str,
+    /// How many lines the report may have.
+    pub max_lines: u64,
+    pub ghost lines_in: { is_limit 100_000 max_lines ≡ true },
+}
+
 /// What the program is asked to do, with the words for it.
 #[derive(Clone, Copy)]
 pub enum CommandWords<'a> {
@@ -108,5 +120,6 @@ pub enum CommandWords<'a> {
     Serve(ServeArguments<'a>),
     Drill(DrillArguments<'a>),
     Fetch(FetchArguments<'a>),
+    Coverage(CoverageArguments<'a>),
     Show(Shown),
 }

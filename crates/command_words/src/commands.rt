@@ -1,14 +1,14 @@
 //! The command that the words of the command line give.
 ghost use Rattle.std.specs.Prelude.{◌≡◌, IfOk, map, option_map, string_bytes};
 ghost use Rattle.clap.specs.Words.{found_of, rows_of};
-ghost use Rattle.command_words.specs.Arguments.{words_at, init_words_at, limits_at, talk_words_at, serve_words_at, drill_words_at, fetch_words_at, command_at};
-ghost use Rattle.command_words.specs.Commands.{select_words_in, init_words_with, init_words_in, limits_in, talk_words_in, serve_words_in, drill_words_in, fetch_words_in, words_of_command, command_named, lone_command_of, asks_help, named_command_of, command_of};
+ghost use Rattle.command_words.specs.Arguments.{words_at, init_words_at, limits_at, talk_words_at, serve_words_at, drill_words_at, fetch_words_at, coverage_words_at, command_at};
+ghost use Rattle.command_words.specs.Commands.{select_words_in, init_words_with, init_words_in, limits_in, talk_words_in, serve_words_in, drill_words_in, fetch_words_in, coverage_words_in, words_of_command, command_named, lone_command_of, asks_help, named_command_of, command_of};
 ghost use Rattle.command_words.specs.Layouts.{app_for};
 ghost use Rattle.command_words.specs.Values.{read_by};
 
 use crate::arguments::{
-    CommandWords, DrillArguments, FetchArguments, InitArguments, LimitArguments, SelectArguments,
-    ServeArguments, TalkArguments,
+    CommandWords, CoverageArguments, DrillArguments, FetchArguments, InitArguments, LimitArguments,
+    SelectArguments, ServeArguments, TalkArguments,
 };
 use crate::name::{CommandName, Shown};
 use crate::values::{limit_in, matches_in, number_if, number_or, value_or};
@@ -188,6 +188,30 @@ fn fetch_in<'a>(
     }
 }
 
+fn coverage_with<'a>(matches: &ArgMatches<'a>) -> Option<CoverageArguments<'a>>
+    ensures { option_map coverage_words_at result ≡ coverage_words_in (rows_of (found_of matches.now)) }
+{
+    let max_lines = limit_in(matches, "max-lines", 100_000)?;
+    Some(CoverageArguments {
+        journal: value_or(matches, "journal", ""),
+        start: value_or(matches, "START", ""),
+        end: value_or(matches, "END", ""),
+        max_lines,
+    })
+}
+
+fn coverage_in<'a>(
+    alloc: Global,
+    words: &'a [String],
+) -> Result<Option<CoverageArguments<'a>>, OutOfMemory>
+    ensures { IfOk result (λ found. option_map coverage_words_at found ≡ read_by (app_for CommandName.Coverage) coverage_words_in (map string_bytes words.entry.now)) }
+{
+    match matches_in(alloc, CommandName::Coverage, words)? {
+        Some(matches) => Ok(coverage_with(&matches)),
+        None => Ok(None),
+    }
+}
+
 // What the words give that begin with a command's name.
 fn words_of_command<'a>(
     alloc: Global,
@@ -203,6 +227,7 @@ fn words_of_command<'a>(
         CommandName::Serve => Ok(serve_in(alloc, words)?.map(CommandWords::Serve)),
         CommandName::Drill => Ok(drill_in(alloc, words)?.map(CommandWords::Drill)),
         CommandName::Fetch => Ok(fetch_in(alloc, words)?.map(CommandWords::Fetch)),
+        CommandName::Coverage => Ok(coverage_in(alloc, words)?.map(CommandWords::Coverage)),
     }
 }
 
@@ -227,6 +252,9 @@ fn command_named(word: &str) -> Option<CommandName>
     }
     if word == "fetch" {
         return Some(CommandName::Fetch);
+    }
+    if word == "coverage" {
+        return Some(CommandName::Coverage);
     }
     None
 }

@@ -117,6 +117,13 @@ fn fetch_layout<'a>(alloc: Global) -> Result<Command<'a>, AllocError>
     layout(alloc, "fetch", &positions, &["peer"], &[])
 }
 
+fn coverage_layout<'a>(alloc: Global) -> Result<Command<'a>, AllocError>
+    ensures { IfOk result (λ c. app_of c ≡ app_for CommandName.Coverage) }
+{
+    let positions = ["START", "END"];
+    layout(alloc, "coverage", &positions, &["journal"], &["max-lines"])
+}
+
 /// The command of a name, with the positions and options that it takes.
 pub(crate) fn layout_for<'a>(alloc: Global, name: CommandName) -> Result<Command<'a>, AllocError>
     ensures { IfOk result (λ c. app_of c ≡ app_for name) }
@@ -128,5 +135,6 @@ pub(crate) fn layout_for<'a>(alloc: Global, name: CommandName) -> Result<Command
         CommandName::Serve => serve_layout(alloc),
         CommandName::Drill => drill_layout(alloc),
         CommandName::Fetch => fetch_layout(alloc),
+        CommandName::Coverage => coverage_layout(alloc),
     }
 }

@@ -18,8 +18,8 @@ mod name;
 mod values;
 
 pub use arguments::{
-    CommandWords, DrillArguments, FetchArguments, InitArguments, LimitArguments, SelectArguments,
-    ServeArguments, TalkArguments,
+    CommandWords, CoverageArguments, DrillArguments, FetchArguments, InitArguments, LimitArguments,
+    SelectArguments, ServeArguments, TalkArguments,
 };
 pub use commands::command_in;
 pub use name::{CommandName, Shown};

@@ -9,6 +9,7 @@ pub enum CommandName {
     Serve,
     Drill,
     Fetch,
+    Coverage,
 }
 
 /// A text that is shown.

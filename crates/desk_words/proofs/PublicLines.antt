@@ -6,7 +6,7 @@ use Rattle.std.specs.Prelude.{length, map}
 use Rattle.list_laws.specs.InOrder.{in_order}
 use Rattle.epochs.specs.declared.kinds.Head.{Head}
 use Rattle.epochs.specs.declared.kinds.Head.TheVariants.{Says, Deletes}
-use Rattle.epochs.specs.declared.kinds.LineKind.TheVariants.{Net, Sta, Cha, Evt, Rst, Grt, Usr}
+use Rattle.epochs.specs.declared.kinds.LineKind.TheVariants.{Net, Sta, Cha, Evt, Rst, Grt, Usr, Wdr}
 use Rattle.epochs.specs.Fields.{Value}
 use Rattle.epochs.specs.Kinds.{Text}
 use Rattle.epochs.specs.Lines.{LineValues}
@@ -117,6 +117,7 @@ module _ (live : List LineValues) where
   columns_by (Says Rst) vs = refl
   columns_by (Says Grt) vs = refl
   columns_by (Says Usr) vs = refl
+  columns_by (Says Wdr) vs = refl
   columns_by (Deletes kind) vs = refl
 
   line_same : (e : LineValues) → line_text few e ≡ line_text live e

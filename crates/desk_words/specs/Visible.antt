@@ -11,7 +11,8 @@ use Rattle.access_digest.specs.Access.{is_touched, may_have}
 use Rattle.archive_entry.specs.declared.entry.Entry.{Entry}
 use Rattle.archive_state.specs.History.{held_of, live_of}
 
--- What a caller sees: the rows that it may have, those of them that a restriction touches, and the public lines.
+-- What a caller sees: of the rows that are held those that it may have, those of them that a restriction touches, and the
+-- public lines.
 pub record Visible : Type 0 where
   pub rows : List Row
   pub restricted : List Row

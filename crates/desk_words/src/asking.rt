@@ -29,6 +29,8 @@ pub enum Wanted {
     Station(StationQuery),
     /// Events (FDSN event, format=text).
     Event(EventQuery),
+    /// The entries from that of a number on, as a replica copies them.
+    Entries { from: u64 },
 }
 
 /// A question to a desk.
@@ -52,6 +54,8 @@ pub enum Outcome {
     Denied(Denial),
     /// Nothing was wanted.
     Known,
+    /// Entries are wanted, and no user asks, or one without the role replica.
+    NoRole,
     /// There is nothing that is asked for.
     Empty,
     /// There are so many bytes, or lines, more than the limit.

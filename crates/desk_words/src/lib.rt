@@ -7,8 +7,8 @@
 //!
 //! The definitions: `specs/Visible.antt` says what of a history a caller may see; `specs/Outcomes.antt` what a question
 //! is answered with, which is a function of the number of entries, of who asks, and of what is visible to that one. So
-//! what is hidden changes no answer ([`what_is_hidden_changes_nothing`]). `specs/Posting.antt` says which entry a posted
-//! command becomes.
+//! what is hidden changes no answer ([`what_is_hidden_changes_nothing`]), but to one who asks for the entries themselves,
+//! which wants a role ([`entries_are_for_replicas`]). `specs/Posting.antt` says which entry a posted command becomes.
 #![tactic(auto)]
 
 mod asking;
@@ -16,5 +16,5 @@ mod law;
 mod outcomes;
 
 pub use asking::{Answer, Desk, Outcome, Question, SubmitFault, Submitted, Wanted};
-pub use law::what_is_hidden_changes_nothing;
+pub use law::{entries_are_for_replicas, what_is_hidden_changes_nothing};
 pub use outcomes::outcome;

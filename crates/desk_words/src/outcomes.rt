@@ -6,15 +6,15 @@ ghost use Rattle.exact_time.specs.declared.error.TextRefusal.{TextRefusal};
 ghost use Rattle.line_columns.specs.Answers.{RefusesTextAs};
 ghost use Rattle.access_digest.specs.Who.{Denies};
 ghost use Rattle.archive_state.specs.History.{live_of};
-ghost use Rattle.desk_words.specs.Outcomes.{outcome_of, outcome_from, data_told, text_told, asked_as, wanted_outcome};
+ghost use Rattle.desk_words.specs.Outcomes.{outcome_of, outcome_from, data_told, text_told, asked_as, may_copy, entries_told, answer_to};
 ghost use Rattle.desk_words.specs.Setting.{setting};
-ghost use Rattle.desk_words.specs.Visible.{visible};
 
 use crate::asking::{Outcome, Question, Wanted};
 use access_digest::{Denial, Pass, WhoFault, who};
-use archive_state::{Limits, State};
+use archive_state::{Limits, State, roles_of};
 use availability::{extent_body, spans_body};
 use dataselect::{DataRefusal, answer};
+use entry_bodies::{BodyRefusal, entries_body};
 use epoch_catalog::Catalog;
 use epochs::User;
 use exact_time::{Bytes, OutOfMemory, Text, TextRefusal};
@@ -51,6 +51,40 @@ fn told_text(alloc: Global, found: Result<Text, TextRefusal>) -> Result<Outcome,
     }
 }
 
+// Whether a user has the role by which an archive is copied.
+fn may_copy(catalog: &Catalog, user: Option<&User>) -> bool
+    ensures { result ≡ may_copy catalog.now (option_map (λ u. u.now.name) user.entry) }
+{
+    let Some(user) = user else {
+        return false;
+    };
+    match roles_of(catalog, user.name.as_slice()) {
+        Some(roles) => roles.replica,
+        None => false,
+    }
+}
+
+// What this user is told who asks for the entries from that of a number on.
+fn told_entries(
+    alloc: Global,
+    state: &State,
+    user: Option<&User>,
+    from: u64,
+    limits: &Limits,
+) -> Result<Outcome, OutOfMemory>
+    ensures { IfOk result (λ o. o ≡ entries_told state.now limits.now (option_map (λ u. u.now.name) user.entry) from) }
+{
+    if !may_copy(state.catalog(), user) {
+        return Ok(Outcome::NoRole);
+    }
+    match entries_body(alloc, state.entries(), from, limits.max_bytes) {
+        Ok(body) => Ok(Outcome::Body(body)),
+        Err(BodyRefusal::Empty) => Ok(Outcome::Empty),
+        Err(BodyRefusal::TooLarge(bytes)) => Ok(Outcome::TooLarge(bytes)),
+        Err(BodyRefusal::OutOfMemory) => Err(OutOfMemory),
+    }
+}
+
 // Who asks: nobody in particular, a user, or one who is denied.
 fn asker<'a>(
     alloc: Global,
@@ -78,7 +112,7 @@ fn told_to(
     wanted: &Wanted,
     limits: &Limits,
 ) -> Result<Outcome, OutOfMemory>
-    ensures { IfOk result (λ o. o ≡ wanted_outcome (visible state.now (option_map (λ u. u.now.name) user.entry)) limits.now wanted.now) }
+    ensures { IfOk result (λ o. o ≡ answer_to state.now limits.now (option_map (λ u. u.now.name) user.entry) wanted.now) }
 {
     let pass = Pass {
         catalog: state.catalog(),
@@ -109,6 +143,7 @@ fn told_to(
             alloc,
             event_text::answer(alloc, state.catalog(), query, limits.max_lines),
         ),
+        Wanted::Entries { from } => told_entries(alloc, state, user, *from, limits),
     }
 }
 

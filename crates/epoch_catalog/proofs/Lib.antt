@@ -3,8 +3,12 @@ pub mod FamilyCuts
 pub mod FamilyPlaces
 pub mod Heads
 pub mod LiveMembers
+pub mod MarkedHeads
+pub mod MarkedNames
 pub mod Merged
+pub mod OneCodes
 pub mod OneUser
 pub mod Placed
 pub mod UsersFound
 pub mod WidePlaces
+pub mod WithdrawalsFound

@@ -8,10 +8,10 @@ use Rattle.std.proofs.lemmas.Bool.Decides.{nat_tests}
 use Rattle.std.proofs.lemmas.Slice.Eq.{bytes_eq-Decides}
 use Rattle.epochs.specs.declared.kinds.Head.{Head}
 use Rattle.epochs.specs.declared.kinds.Head.TheVariants.{Says, Deletes}
-use Rattle.epochs.specs.declared.kinds.LineKind.TheVariants.{Net, Sta, Cha, Evt, Rst, Grt, Usr}
+use Rattle.epochs.specs.declared.kinds.LineKind.TheVariants.{Net, Sta, Cha, Evt, Rst, Grt, Usr, Wdr}
 use Rattle.epochs.specs.declared.line.User.{User}
 use Rattle.epochs.specs.declared.parts.Roles.{Roles}
-use Rattle.epochs.specs.Fields.{Value, code, words, time, end, number, optional, patterns, roles, is_name_byte, is_user_name}
+use Rattle.epochs.specs.Fields.{Value, code, words, time, end, number, optional, patterns, roles, entry_number, is_name_byte, is_user_name}
 use Rattle.epochs.specs.Keys.{key_values, in_key}
 use Rattle.epochs.specs.Kinds.{Text, plain, Ha1, RoleNames}
 use Rattle.epochs.specs.Lines.{LineValues, line_values}
@@ -72,6 +72,7 @@ key_by name long (end t) e = absurd (not_empty name long e)
 key_by name long (number n) e = absurd (not_empty name long e)
 key_by name long (optional n) e = absurd (not_empty name long e)
 key_by name long (roles r) e = absurd (not_empty name long e)
+key_by name long (entry_number n) e = absurd (not_empty name long e)
 
 no_more : (vs : List Value) → in_key (plain Ha1 ∷ plain RoleNames ∷ []) vs ≡ []
 no_more [] = refl
@@ -92,6 +93,7 @@ user_key name long (Says Cha) values h = absurd (let bad : false ≡ true = h in
 user_key name long (Says Evt) values h = absurd (let bad : false ≡ true = h in cc)
 user_key name long (Says Rst) values h = absurd (let bad : false ≡ true = h in cc)
 user_key name long (Says Grt) values h = absurd (let bad : false ≡ true = h in cc)
+user_key name long (Says Wdr) values h = absurd (let bad : false ≡ true = h in cc)
 user_key name long (Deletes kind) values h = absurd (let bad : false ≡ true = h in cc)
 
 at_least_one : (n : ℕ) → nat_le 1 n ≡ true → 1 ≤ n

@@ -1,8 +1,10 @@
--- The restrictions and grants whose network is written as patterns, and their places among the live lines.
-use Rattle.std.specs.Prelude.{◌≡◌, ℕ, ◌+◌, Bool, not, ◌&&◌, ◌||◌, List, [], ◌∷◌, ◌++◌, map, filter, Some, if◌then◌else◌}
+-- The restrictions and grants whose network is written as patterns, the withdrawals some text of which is, and their
+-- places among the live lines.
+use Rattle.std.specs.Prelude.{◌≡◌, ℕ, ◌+◌, Bool, not, ◌&&◌, ◌||◌, List, [], ◌∷◌, ◌++◌, map, filter, Some, if◌then◌else◌, codes}
 use Rattle.std.specs.List.{list_all, slice_get}
 use Rattle.std.specs.Char.{is_ascii_alphanumeric}
-use Rattle.epochs.specs.declared.kinds.LineKind.TheVariants.{Rst, Grt}
+use Rattle.std.specs.Str.{bytes_eq}
+use Rattle.epochs.specs.declared.kinds.LineKind.TheVariants.{Rst, Grt, Wdr}
 use Rattle.epochs.specs.Kinds.{Text}
 use Rattle.epochs.specs.Lines.{LineValues}
 use Rattle.epoch_catalog.specs.declared.families.Family.{Family}
@@ -14,11 +16,22 @@ use Rattle.epoch_rules.specs.Rules.{is_line_of}
 abbrev pub is_one_code : Text → Bool
 is_one_code text = list_all is_ascii_alphanumeric text
 
--- a restriction or a grant whose network isn't written as one code
+-- and so is such a list for locations, or two hyphens, which name the blank location as no text at all does
+abbrev pub is_one_location : Text → Bool
+is_one_location text = is_one_code text || bytes_eq text (codes "--")
+
+-- each of four lists is written as one code
+abbrev pub is_one_name : (network station location channel : Text) → Bool
+is_one_name network station location channel =
+    is_one_code network && is_one_code station && is_one_location location && is_one_code channel
+
+-- a restriction or a grant whose network isn't written as one code, or a withdrawal some text of which isn't
 abbrev pub is_wide : LineValues → Bool
 is_wide e =
     (is_line_of Rst e && not (is_one_code (key_parts_of e).first))
     || (is_line_of Grt e && not (is_one_code (key_parts_of e).second))
+    || (is_line_of Wdr e
+    && not (is_one_name (key_parts_of e).first (key_parts_of e).second (key_parts_of e).third (key_parts_of e).fourth))
 
 -- the places of the elements that pass a test, where the first element's place is n
 abbrev pub places_from : {X : Type 0} → (X → Bool) → ℕ → List X → List ℕ

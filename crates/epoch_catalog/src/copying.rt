@@ -1,18 +1,18 @@
 //! Copies of lines.
 ghost use Rattle.std.specs.Prelude.{◌≡◌, IfOk};
 ghost use Rattle.channel_globs.specs.PatternText.{IsPatternList};
-ghost use Rattle.epochs.specs.declared.key.Key.TheVariants as key;
 ghost use Rattle.epochs.specs.declared.line.Line.TheVariants as line;
 ghost use Rattle.epochs.specs.Spellable.{IsSpellable};
 ghost use Rattle.epochs.specs.Keys.{deletion_line};
 ghost use Rattle.epochs.specs.Views.{values_of_line};
+ghost use Rattle.epoch_catalog.specs.Globs.{AreRead};
 
-use channel_globs::{Code, Part, PatternList};
+use channel_globs::{Part, PatternList};
 use epochs::{
-    ChannelEpoch, Deletion, Event, Glob, Grant, Key, Line, NetworkEpoch, Restriction, StationEpoch,
-    User,
+    Attribution, ChannelEpoch, Deletion, Event, Glob, Globs, Grant, Key, Line, Magnitude,
+    NetworkEpoch, Response, Restriction, Sensor, StationEpoch, User, Withdrawal,
 };
-use exact_time::{Moment, OutOfMemory, Text};
+use exact_time::{OutOfMemory, Text};
 use std::alloc::Global;
 
 fn copy_text(alloc: Global, text: &Text) -> Result<Text, OutOfMemory>
@@ -35,14 +35,70 @@ fn copy_glob(alloc: Global, part: Part, glob: &Glob) -> Result<Glob, OutOfMemory
     }
 }
 
+// A copy of the patterns of the four codes, each list of which is that of its text.
+fn copy_globs(alloc: Global, channels: &Globs) -> Result<Globs, OutOfMemory>
+    requires { AreRead channels.now }
+    ensures { IfOk result (λ copy. copy ≡ channels.now) }
+{
+    Ok(Globs {
+        network: copy_glob(alloc, Part::Network, &channels.network)?,
+        station: copy_glob(alloc, Part::Station, &channels.station)?,
+        location: copy_glob(alloc, Part::Location, &channels.location)?,
+        channel: copy_glob(alloc, Part::Channel, &channels.channel)?,
+    })
+}
+
+fn copy_sensor(alloc: Global, sensor: &Sensor) -> Result<Sensor, OutOfMemory>
+    ensures { IfOk result (λ copy. copy ≡ sensor.now) }
+{
+    Ok(Sensor {
+        depth: sensor.depth,
+        azimuth: sensor.azimuth,
+        dip: sensor.dip,
+        sensor: copy_text(alloc, &sensor.sensor)?,
+    })
+}
+
+fn copy_response(alloc: Global, response: &Response) -> Result<Response, OutOfMemory>
+    ensures { IfOk result (λ copy. copy ≡ response.now) }
+{
+    Ok(Response {
+        scale: response.scale,
+        scale_freq: response.scale_freq,
+        scale_units: copy_text(alloc, &response.scale_units)?,
+        sample_rate: response.sample_rate,
+    })
+}
+
+fn copy_attribution(alloc: Global, told: &Attribution) -> Result<Attribution, OutOfMemory>
+    ensures { IfOk result (λ copy. copy ≡ told.now) }
+{
+    Ok(Attribution {
+        author: copy_text(alloc, &told.author)?,
+        catalog: copy_text(alloc, &told.catalog)?,
+        contributor: copy_text(alloc, &told.contributor)?,
+        contributor_id: copy_text(alloc, &told.contributor_id)?,
+    })
+}
+
+fn copy_magnitude(alloc: Global, magnitude: &Magnitude) -> Result<Magnitude, OutOfMemory>
+    ensures { IfOk result (λ copy. copy ≡ magnitude.now) }
+{
+    Ok(Magnitude {
+        kind: copy_text(alloc, &magnitude.kind)?,
+        magnitude: magnitude.magnitude,
+        author: copy_text(alloc, &magnitude.author)?,
+        location: copy_text(alloc, &magnitude.location)?,
+    })
+}
+
 fn copy_net(alloc: Global, net: &NetworkEpoch) -> Result<Line, OutOfMemory>
     ensures { IfOk result (λ copy. values_of_line copy ≡ values_of_line (line.Net net.now)) }
 {
     Ok(Line::Net(NetworkEpoch {
         network: net.network,
         description: copy_text(alloc, &net.description)?,
-        start: net.start,
-        end: net.end,
+        times: net.times,
     }))
 }
 
@@ -52,99 +108,62 @@ fn copy_sta(alloc: Global, sta: &StationEpoch) -> Result<Line, OutOfMemory>
     Ok(Line::Sta(StationEpoch {
         network: sta.network,
         station: sta.station,
-        latitude: sta.latitude,
-        longitude: sta.longitude,
-        elevation: sta.elevation,
+        position: sta.position,
         site: copy_text(alloc, &sta.site)?,
-        start: sta.start,
-        end: sta.end,
+        times: sta.times,
     }))
 }
 
 fn copy_cha(alloc: Global, cha: &ChannelEpoch) -> Result<Line, OutOfMemory>
     ensures { IfOk result (λ copy. values_of_line copy ≡ values_of_line (line.Cha cha.now)) }
 {
-    let sensor = copy_text(alloc, &cha.sensor)?;
-    let scale_units = copy_text(alloc, &cha.scale_units)?;
     Ok(Line::Cha(ChannelEpoch {
         name: cha.name,
-        latitude: cha.latitude,
-        longitude: cha.longitude,
-        elevation: cha.elevation,
-        depth: cha.depth,
-        azimuth: cha.azimuth,
-        dip: cha.dip,
-        sensor,
-        scale: cha.scale,
-        scale_freq: cha.scale_freq,
-        scale_units,
-        sample_rate: cha.sample_rate,
-        start: cha.start,
-        end: cha.end,
+        position: cha.position,
+        sensor: copy_sensor(alloc, &cha.sensor)?,
+        response: copy_response(alloc, &cha.response)?,
+        times: cha.times,
     }))
 }
 
 fn copy_evt(alloc: Global, event: &Event) -> Result<Line, OutOfMemory>
     ensures { IfOk result (λ copy. values_of_line copy ≡ values_of_line (line.Evt event.now)) }
 {
-    let id = copy_text(alloc, &event.id)?;
-    let author = copy_text(alloc, &event.author)?;
-    let catalog = copy_text(alloc, &event.catalog)?;
-    let contributor = copy_text(alloc, &event.contributor)?;
-    let contributor_id = copy_text(alloc, &event.contributor_id)?;
-    let magnitude_kind = copy_text(alloc, &event.magnitude_kind)?;
-    let magnitude_author = copy_text(alloc, &event.magnitude_author)?;
-    let location = copy_text(alloc, &event.location)?;
     Ok(Line::Evt(Event {
-        id,
+        id: copy_text(alloc, &event.id)?,
         time: event.time,
-        latitude: event.latitude,
-        longitude: event.longitude,
-        depth: event.depth,
-        author,
-        catalog,
-        contributor,
-        contributor_id,
-        magnitude_kind,
-        magnitude: event.magnitude,
-        magnitude_author,
-        location,
+        hypocentre: event.hypocentre,
+        attribution: copy_attribution(alloc, &event.attribution)?,
+        magnitude: copy_magnitude(alloc, &event.magnitude)?,
     }))
 }
 
 fn copy_rst(alloc: Global, rst: &Restriction) -> Result<Line, OutOfMemory>
     ensures { IfOk result (λ copy. values_of_line copy ≡ values_of_line (line.Rst rst.now)) }
 {
-    let network = copy_glob(alloc, Part::Network, &rst.network)?;
-    let station = copy_glob(alloc, Part::Station, &rst.station)?;
-    let location = copy_glob(alloc, Part::Location, &rst.location)?;
-    let channel = copy_glob(alloc, Part::Channel, &rst.channel)?;
     Ok(Line::Rst(Restriction {
-        network,
-        station,
-        location,
-        channel,
-        start: rst.start,
-        end: rst.end,
+        channels: copy_globs(alloc, &rst.channels)?,
+        times: rst.times,
     }))
 }
 
 fn copy_grt(alloc: Global, grt: &Grant) -> Result<Line, OutOfMemory>
     ensures { IfOk result (λ copy. values_of_line copy ≡ values_of_line (line.Grt grt.now)) }
 {
-    let user = copy_text(alloc, &grt.user)?;
-    let network = copy_glob(alloc, Part::Network, &grt.network)?;
-    let station = copy_glob(alloc, Part::Station, &grt.station)?;
-    let location = copy_glob(alloc, Part::Location, &grt.location)?;
-    let channel = copy_glob(alloc, Part::Channel, &grt.channel)?;
     Ok(Line::Grt(Grant {
-        user,
-        network,
-        station,
-        location,
-        channel,
-        start: grt.start,
-        end: grt.end,
+        user: copy_text(alloc, &grt.user)?,
+        channels: copy_globs(alloc, &grt.channels)?,
+        times: grt.times,
+    }))
+}
+
+fn copy_wdr(alloc: Global, wdr: &Withdrawal) -> Result<Line, OutOfMemory>
+    ensures { IfOk result (λ copy. values_of_line copy ≡ values_of_line (line.Wdr wdr.now)) }
+{
+    Ok(Line::Wdr(Withdrawal {
+        channels: copy_globs(alloc, &wdr.channels)?,
+        times: wdr.times,
+        upto: wdr.upto,
     }))
 }
 
@@ -158,97 +177,52 @@ fn copy_usr(alloc: Global, user: &User) -> Result<Line, OutOfMemory>
     }))
 }
 
-// The key of a station's epoch.
-fn station_key(network: Code, station: Code, start: Moment) -> Key
-    ensures { result ≡ key.Sta network station start }
-{
-    Key::Sta {
-        network,
-        station,
-        start,
-    }
-}
-
-// A copy of the key of a restriction.
-fn copy_restricted(
-    alloc: Global,
-    network: &Glob,
-    station: &Glob,
-    location: &Glob,
-    channel: &Glob,
-    start: Moment,
-) -> Result<Key, OutOfMemory>
-    requires { IsSpellable (deletion_line (key.Rst network.now station.now location.now channel.now start)) }
-    ensures { IfOk result (λ copy. copy ≡ key.Rst network.now station.now location.now channel.now start) }
-{
-    Ok(Key::Rst {
-        network: copy_glob(alloc, Part::Network, network)?,
-        station: copy_glob(alloc, Part::Station, station)?,
-        location: copy_glob(alloc, Part::Location, location)?,
-        channel: copy_glob(alloc, Part::Channel, channel)?,
-        start,
-    })
-}
-
-// A copy of the key of a grant.
-fn copy_granted(
-    alloc: Global,
-    user: &Text,
-    network: &Glob,
-    station: &Glob,
-    location: &Glob,
-    channel: &Glob,
-    start: Moment,
-) -> Result<Key, OutOfMemory>
-    requires { IsSpellable (deletion_line (key.Grt user.now network.now station.now location.now channel.now start)) }
-    ensures { IfOk result (λ copy. copy ≡ key.Grt user.now network.now station.now location.now channel.now start) }
-{
-    Ok(Key::Grt {
-        user: copy_text(alloc, user)?,
-        network: copy_glob(alloc, Part::Network, network)?,
-        station: copy_glob(alloc, Part::Station, station)?,
-        location: copy_glob(alloc, Part::Location, location)?,
-        channel: copy_glob(alloc, Part::Channel, channel)?,
-        start,
-    })
-}
-
 fn copy_key(alloc: Global, key: &Key) -> Result<Key, OutOfMemory>
     requires { IsSpellable (deletion_line key.now) }
     ensures { IfOk result (λ copy. copy ≡ key.now) }
 {
-    match key {
-        Key::Net { network, start } => Ok(Key::Net {
+    Ok(match key {
+        Key::Net { network, start } => Key::Net {
             network: *network,
             start: *start,
-        }),
+        },
         Key::Sta {
             network,
             station,
             start,
-        } => Ok(station_key(*network, *station, *start)),
-        Key::Cha { name, start } => Ok(Key::Cha {
+        } => Key::Sta {
+            network: *network,
+            station: *station,
+            start: *start,
+        },
+        Key::Cha { name, start } => Key::Cha {
             name: *name,
             start: *start,
-        }),
-        Key::Evt { id } => copy_text(alloc, id).map(|id| Key::Evt { id }),
-        Key::Rst {
-            network,
-            station,
-            location,
-            channel,
-            start,
-        } => copy_restricted(alloc, network, station, location, channel, *start),
+        },
+        Key::Evt { id } => Key::Evt {
+            id: copy_text(alloc, id)?,
+        },
+        Key::Rst { channels, start } => Key::Rst {
+            channels: copy_globs(alloc, channels)?,
+            start: *start,
+        },
         Key::Grt {
             user,
-            network,
-            station,
-            location,
-            channel,
+            channels,
             start,
-        } => copy_granted(alloc, user, network, station, location, channel, *start),
-        Key::Usr { name } => copy_text(alloc, name).map(|name| Key::Usr { name }),
-    }
+        } => Key::Grt {
+            user: copy_text(alloc, user)?,
+            channels: copy_globs(alloc, channels)?,
+            start: *start,
+        },
+        Key::Usr { name } => Key::Usr {
+            name: copy_text(alloc, name)?,
+        },
+        Key::Wdr { channels, start } => Key::Wdr {
+            channels: copy_globs(alloc, channels)?,
+            start: *start,
+        },
+    })
 }
 
 fn copy_del(alloc: Global, deletion: &Deletion) -> Result<Line, OutOfMemory>
@@ -271,6 +245,7 @@ pub fn copy_line(alloc: Global, line: &Line) -> Result<Line, OutOfMemory>
         Line::Rst(rst) => copy_rst(alloc, rst),
         Line::Grt(grt) => copy_grt(alloc, grt),
         Line::Usr(user) => copy_usr(alloc, user),
+        Line::Wdr(wdr) => copy_wdr(alloc, wdr),
         Line::Del(deletion) => copy_del(alloc, deletion),
     }
 }

@@ -1,12 +1,16 @@
 //! Lines that stand together in a catalog.
 ghost use Rattle.std.specs.Prelude.{◌≡◌, ◌+◌, ◌≤◌, map, filter, length, take, drop};
+ghost use Rattle.std.specs.List.{list_any};
+ghost use Rattle.epochs.specs.declared.kinds.LineKind.TheVariants.{Rst};
 ghost use Rattle.epochs.specs.Views.{values_of_line};
 ghost use Rattle.epoch_rules.specs.Catalog.{IsCatalog};
-ghost use Rattle.epoch_catalog.specs.Families.{is_in, family_place};
+ghost use Rattle.epoch_catalog.specs.Families.{is_in, family_place, name_place};
 ghost use Rattle.epoch_rules.specs.KeyOrder.{key_parts_of};
+ghost use Rattle.epoch_rules.specs.KeyViews.{parts_of_view};
+ghost use Rattle.epoch_rules.specs.Rules.{is_line_of};
 
-use channel_globs::Code;
-use epoch_rules::{KeyKind, key_view};
+use channel_globs::{Code, Nslc};
+use epoch_rules::{KeyKind, KeyView, key_view};
 use epochs::Line;
 use std::cmp::Ordering;
 
@@ -33,6 +37,24 @@ pub enum Family<'a> {
     GrantsOf(&'a [u8]),
     /// The grants of a user whose network is written as this code.
     GrantsOn(&'a [u8], Code),
+    /// The withdrawals.
+    Withdrawals,
+    /// The withdrawals whose texts are written as the codes of this name, but for the location's, which is written as
+    /// this text.
+    WithdrawalsOn(Nslc, &'a [u8]),
+}
+
+// Where the first four texts of a key stand to the codes of a name, whose location is written as this text.
+fn place_to_name(key: &KeyView<'_>, name: &Nslc, location: &[u8]) -> Ordering
+    ensures { result ≡ name_place name.now location.now (parts_of_view key.now) }
+{
+    key.first.cmp(&name.network.as_slice()).then(
+        key.second.cmp(&name.station.as_slice()).then(
+            key.third
+                .cmp(location)
+                .then(key.fourth.cmp(&name.channel.as_slice())),
+        ),
+    )
 }
 
 // Where a line stands to a family: before it, in it or behind it.
@@ -67,6 +89,11 @@ fn place_to(family: &Family<'_>, line: &Line) -> Ordering
                 .cmp(user)
                 .then(key.second.cmp(&network.as_slice())),
         ),
+        Family::Withdrawals => key.kind.cmp(&KeyKind::Withdrawal),
+        Family::WithdrawalsOn(name, location) => key
+            .kind
+            .cmp(&KeyKind::Withdrawal)
+            .then(place_to_name(&key, name, location)),
     }
 }
 
@@ -96,4 +123,12 @@ pub fn family_in<'a>(lines: &'a [Line], family: &Family<'_>) -> &'a [Line]
 {
     let bounds = family_bounds(lines, family);
     &lines[bounds.first..][..bounds.count]
+}
+
+/// Whether there is a restriction among the lines of a catalog.
+pub fn has_restrictions(lines: &[Line]) -> bool
+    requires { IsCatalog (map values_of_line lines.now) }
+    ensures { result ≡ list_any (is_line_of Rst) (map values_of_line lines.now) }
+{
+    !family_in(lines, &Family::Restrictions).is_empty()
 }

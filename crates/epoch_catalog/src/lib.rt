@@ -32,6 +32,7 @@ mod merging;
 mod placing;
 mod users;
 mod wide;
+mod withdrawals;
 
 pub use catalog::Catalog;
 pub use families::Family;
@@ -39,3 +40,4 @@ pub use law::{
     a_name_is_that_of_one_user, kept_lines_keep_a_catalog, live_lines_go_on,
     live_lines_in_the_subjects_words,
 };
+pub use withdrawals::Mark;

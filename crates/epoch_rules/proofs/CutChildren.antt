@@ -4,7 +4,7 @@ use Rattle.std.specs.List.{list_any}
 use Rattle.std.specs.Str.{bytes_eq}
 use Rattle.std.proofs.lemmas.Bool.{and_parts, both_ways, eqb-true, false_from_ne_true}
 use Rattle.epochs.specs.declared.kinds.LineKind.{LineKind}
-use Rattle.epochs.specs.declared.kinds.LineKind.TheVariants.{Net, Sta, Cha, Evt, Rst, Grt, Usr}
+use Rattle.epochs.specs.declared.kinds.LineKind.TheVariants.{Net, Sta, Cha, Evt, Rst, Grt, Usr, Wdr}
 use Rattle.epochs.specs.declared.kinds.Head.{Head}
 use Rattle.epochs.specs.declared.kinds.Head.TheVariants.{Says, Deletes}
 use Rattle.epochs.specs.Fields.{Value}
@@ -32,6 +32,7 @@ kind_small Evt = omega arith
 kind_small Rst = omega arith
 kind_small Grt = omega arith
 kind_small Usr = omega arith
+kind_small Wdr = omega arith
 
 rank_small : (x : LineValues) → (key_parts_of x).rank < 255
 rank_small x = of_head x.head x.values

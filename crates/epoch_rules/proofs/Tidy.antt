@@ -42,26 +42,28 @@ deleted_user (key.Net network start) h = absurd (omega (arith, h))
 deleted_user (key.Sta network station start) h = absurd (omega (arith, h))
 deleted_user (key.Cha name start) h = absurd (omega (arith, h))
 deleted_user (key.Evt id) h = absurd (omega (arith, h))
-deleted_user (key.Rst network station location channel start) h = absurd (omega (arith, h))
-deleted_user (key.Grt user network station location channel start) h = absurd (omega (arith, h))
+deleted_user (key.Rst channels start) h = absurd (omega (arith, h))
+deleted_user (key.Grt user channels start) h = absurd (omega (arith, h))
 deleted_user (key.Usr name) h = (refl, refl, refl, refl, refl)
+deleted_user (key.Wdr channels start) h = absurd (omega (arith, h))
 
 pub tidy : (l : Line) → Tidy (values_of_line l)
 tidy (line.Net n) =
     let after = (spellable_has _ n.spellable).in_order in
-    record { starts = λ _. refl; forward = λ _. before n.start.micros n.end after; network = λ _. (refl, refl, refl, refl); station = λ h. cc; channel = λ h. cc; late = λ h. cc; user = λ h. absurd (omega (arith, h)) }
+    record { starts = λ _. refl; forward = λ _. before n.times.start.micros n.times.end after; network = λ _. (refl, refl, refl, refl); station = λ h. cc; channel = λ h. cc; late = λ h. cc; user = λ h. absurd (omega (arith, h)) }
 tidy (line.Sta s) =
     let after = (spellable_has _ s.spellable).in_order in
-    record { starts = λ _. refl; forward = λ _. before s.start.micros s.end after; network = λ h. cc; station = λ _. (refl, refl, refl); channel = λ h. cc; late = λ h. cc; user = λ h. absurd (omega (arith, h)) }
+    record { starts = λ _. refl; forward = λ _. before s.times.start.micros s.times.end after; network = λ h. cc; station = λ _. (refl, refl, refl); channel = λ h. cc; late = λ h. cc; user = λ h. absurd (omega (arith, h)) }
 tidy (line.Cha c) =
     let after = (spellable_has _ c.spellable).in_order in
-    record { starts = λ _. refl; forward = λ _. before c.start.micros c.end after; network = λ h. cc; station = λ h. cc; channel = λ _. refl; late = λ h. cc; user = λ h. absurd (omega (arith, h)) }
+    record { starts = λ _. refl; forward = λ _. before c.times.start.micros c.times.end after; network = λ h. cc; station = λ h. cc; channel = λ _. refl; late = λ h. cc; user = λ h. absurd (omega (arith, h)) }
 tidy (line.Evt e) = record { starts = λ h. cc; forward = λ h. cc; network = λ h. cc; station = λ h. cc; channel = λ h. cc; late = λ h. cc; user = λ h. absurd (omega (arith, h)) }
 tidy (line.Rst r) = record { starts = λ h. cc; forward = λ h. cc; network = λ h. cc; station = λ h. cc; channel = λ h. cc; late = λ h. cc; user = λ h. absurd (omega (arith, h)) }
 tidy (line.Grt g) =
     let start = (spellable_has _ g.spellable).values_are.1.1.1.1.1.0 in
-    record { starts = λ h. cc; forward = λ h. cc; network = λ h. cc; station = λ h. cc; channel = λ h. cc; late = λ _. since g.start.micros start.from; user = λ h. absurd (omega (arith, h)) }
+    record { starts = λ h. cc; forward = λ h. cc; network = λ h. cc; station = λ h. cc; channel = λ h. cc; late = λ _. since g.times.start.micros start.from; user = λ h. absurd (omega (arith, h)) }
 tidy (line.Usr u) = record { starts = λ h. cc; forward = λ h. cc; network = λ h. cc; station = λ h. cc; channel = λ h. cc; late = λ h. cc; user = λ _. (refl, refl, refl, refl, refl) }
+tidy (line.Wdr w) = record { starts = λ h. cc; forward = λ h. cc; network = λ h. cc; station = λ h. cc; channel = λ h. cc; late = λ h. cc; user = λ h. absurd (omega (arith, h)) }
 tidy (line.Del d) = record { starts = λ h. cc; forward = λ h. cc; network = λ h. cc; station = λ h. cc; channel = λ h. cc; late = λ h. cc; user = deleted_user d.key }
 
 -- the lines of a map are tidy

@@ -4,9 +4,9 @@ use Rattle.std.specs.Ordering.{nat_cmp, eq_by_cmp}
 use Rattle.std.specs.Cmp.{IsEquivalence, IsPartialOrder, IsTotalOrder, nat_cmp_total, nat_eq_equiv, on_equiv, on_total, po, unsigned_tied}
 use Rattle.std.proofs.Common.{sym, Some}
 use Rattle.epoch_rules.specs.declared.key_kind.KeyKind.{KeyKind}
-use Rattle.epoch_rules.specs.declared.key_kind.KeyKind.TheVariants.{Network, Station, Channel, Event, Restriction, Grant, User, Last}
+use Rattle.epoch_rules.specs.declared.key_kind.KeyKind.TheVariants.{Network, Station, Channel, Event, Restriction, Grant, User, Withdrawal, Last}
 
--- networks first, users last, and behind them the end of all keys
+-- networks first, withdrawals last, and behind them the end of all keys
 abbrev pub key_rank : KeyKind → ℕ
 key_rank Network = 0
 key_rank Station = 1
@@ -15,6 +15,7 @@ key_rank Event = 3
 key_rank Restriction = 4
 key_rank Grant = 5
 key_rank User = 6
+key_rank Withdrawal = 7
 key_rank Last = 255
 
 pub same_kinds : IsEquivalence (λ a b. nat_eq (key_rank a) (key_rank b))

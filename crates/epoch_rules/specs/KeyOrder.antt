@@ -4,7 +4,7 @@ use Rattle.std.specs.declared.cmp.Ordering.{Ordering}
 use Rattle.std.specs.Ordering.{nat_cmp, int_cmp, is_eq, ordering_then}
 use Rattle.std.specs.Cmp.Lexicographic.{slice_cmp}
 use Rattle.epochs.specs.declared.kinds.LineKind.{LineKind}
-use Rattle.epochs.specs.declared.kinds.LineKind.TheVariants.{Net, Sta, Cha, Evt, Rst, Grt, Usr}
+use Rattle.epochs.specs.declared.kinds.LineKind.TheVariants.{Net, Sta, Cha, Evt, Rst, Grt, Usr, Wdr}
 use Rattle.epochs.specs.Kinds.{Text}
 use Rattle.epochs.specs.Fields.{Value, code, words, patterns}
 use Rattle.epochs.specs.Keys.{KeyValues, key_of}
@@ -30,6 +30,7 @@ rank_of Evt = 3
 rank_of Rst = 4
 rank_of Grt = 5
 rank_of Usr = 6
+rank_of Wdr = 7
 
 -- the texts among the values of a key
 abbrev pub texts_in : List Value → List Text

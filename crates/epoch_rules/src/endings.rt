@@ -64,7 +64,7 @@ fn station_key(sta: &StationEpoch) -> ChildKey
         station: KeyCode::of(sta.station),
         location: KeyCode::none(),
         channel: KeyCode::none(),
-        start: sta.start.micros,
+        start: sta.times.start.micros,
     }
 }
 
@@ -77,7 +77,7 @@ fn channel_key(cha: &ChannelEpoch) -> ChildKey
         station: KeyCode::of(cha.name.station),
         location: KeyCode::of(cha.name.location),
         channel: KeyCode::of(cha.name.channel),
-        start: cha.start.micros,
+        start: cha.times.start.micros,
     }
 }
 

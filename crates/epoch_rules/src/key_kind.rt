@@ -16,6 +16,7 @@ pub enum KeyKind {
     Restriction,
     Grant,
     User,
+    Withdrawal,
     /// Behind all keys.
     Last,
 }
@@ -33,6 +34,7 @@ impl KeyKind {
             KeyKind::Restriction => 4,
             KeyKind::Grant => 5,
             KeyKind::User => 6,
+            KeyKind::Withdrawal => 7,
             KeyKind::Last => 255,
         }
     }

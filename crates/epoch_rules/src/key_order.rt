@@ -7,7 +7,7 @@ ghost use Rattle.epoch_rules.specs.KeyOrder.{key_parts, key_parts_of, line_cmp};
 ghost use Rattle.epoch_rules.specs.KeyViews.{parts_of_view, view_of};
 
 use crate::key_kind::KeyKind;
-use epochs::{Glob, Key, Line};
+use epochs::{Globs, Key, Line};
 use exact_time::Moment;
 use std::cmp::Ordering;
 
@@ -61,24 +61,31 @@ fn epoch<'a>(
     }
 }
 
+// The key of an epoch of channels that patterns name.
+fn patterned<'a>(kind: KeyKind, channels: &'a Globs, start: Moment) -> KeyView<'a>
+    ensures { parts_of_view result ≡ view_of (key_rank kind) channels.now.network.text channels.now.station.text channels.now.location.text channels.now.channel.text [] start.micros }
+{
+    epoch(
+        kind,
+        channels.network.text.as_slice(),
+        channels.station.text.as_slice(),
+        channels.location.text.as_slice(),
+        channels.channel.text.as_slice(),
+        start,
+    )
+}
+
 // The key of a grant.
-fn grant<'a>(
-    user: &'a [u8],
-    network: &'a Glob,
-    station: &'a Glob,
-    location: &'a Glob,
-    channel: &'a Glob,
-    start: Moment,
-) -> KeyView<'a>
-    ensures { parts_of_view result ≡ view_of 5 user.now network.now.text station.now.text location.now.text channel.now.text start.micros }
+fn grant<'a>(user: &'a [u8], channels: &'a Globs, start: Moment) -> KeyView<'a>
+    ensures { parts_of_view result ≡ view_of 5 user.now channels.now.network.text channels.now.station.text channels.now.location.text channels.now.channel.text start.micros }
 {
     KeyView {
         kind: KeyKind::Grant,
         first: user,
-        second: network.text.as_slice(),
-        third: station.text.as_slice(),
-        fourth: location.text.as_slice(),
-        fifth: channel.text.as_slice(),
+        second: channels.network.text.as_slice(),
+        third: channels.station.text.as_slice(),
+        fourth: channels.location.text.as_slice(),
+        fifth: channels.channel.text.as_slice(),
         start: start.micros,
     }
 }
@@ -117,29 +124,14 @@ fn deleted(key: &Key) -> KeyView<'_>
             *start,
         ),
         Key::Evt { id } => named(KeyKind::Event, id.as_slice()),
-        Key::Rst {
-            network,
-            station,
-            location,
-            channel,
-            start,
-        } => epoch(
-            KeyKind::Restriction,
-            network.text.as_slice(),
-            station.text.as_slice(),
-            location.text.as_slice(),
-            channel.text.as_slice(),
-            *start,
-        ),
+        Key::Rst { channels, start } => patterned(KeyKind::Restriction, channels, *start),
         Key::Grt {
             user,
-            network,
-            station,
-            location,
-            channel,
+            channels,
             start,
-        } => grant(user.as_slice(), network, station, location, channel, *start),
+        } => grant(user.as_slice(), channels, *start),
         Key::Usr { name } => named(KeyKind::User, name.as_slice()),
+        Key::Wdr { channels, start } => patterned(KeyKind::Withdrawal, channels, *start),
     }
 }
 
@@ -154,7 +146,7 @@ pub fn key_view(line: &Line) -> KeyView<'_>
             &[],
             &[],
             &[],
-            net.start,
+            net.times.start,
         ),
         Line::Sta(sta) => epoch(
             KeyKind::Station,
@@ -162,7 +154,7 @@ pub fn key_view(line: &Line) -> KeyView<'_>
             sta.station.as_slice(),
             &[],
             &[],
-            sta.start,
+            sta.times.start,
         ),
         Line::Cha(cha) => epoch(
             KeyKind::Channel,
@@ -170,26 +162,13 @@ pub fn key_view(line: &Line) -> KeyView<'_>
             cha.name.station.as_slice(),
             cha.name.location.as_slice(),
             cha.name.channel.as_slice(),
-            cha.start,
+            cha.times.start,
         ),
         Line::Evt(event) => named(KeyKind::Event, event.id.as_slice()),
-        Line::Rst(rst) => epoch(
-            KeyKind::Restriction,
-            rst.network.text.as_slice(),
-            rst.station.text.as_slice(),
-            rst.location.text.as_slice(),
-            rst.channel.text.as_slice(),
-            rst.start,
-        ),
-        Line::Grt(grt) => grant(
-            grt.user.as_slice(),
-            &grt.network,
-            &grt.station,
-            &grt.location,
-            &grt.channel,
-            grt.start,
-        ),
+        Line::Rst(rst) => patterned(KeyKind::Restriction, &rst.channels, rst.times.start),
+        Line::Grt(grt) => grant(grt.user.as_slice(), &grt.channels, grt.times.start),
         Line::Usr(user) => named(KeyKind::User, user.name.as_slice()),
+        Line::Wdr(wdr) => patterned(KeyKind::Withdrawal, &wdr.channels, wdr.times.start),
         Line::Del(deletion) => deleted(&deletion.key),
     }
 }

@@ -13,13 +13,14 @@ pub fn start(line: &Line) -> i64
     ensures { result ≡ epoch_start (values_of_line line.now) }
 {
     match line {
-        Line::Net(net) => net.start.micros,
-        Line::Sta(sta) => sta.start.micros,
-        Line::Cha(cha) => cha.start.micros,
+        Line::Net(net) => net.times.start.micros,
+        Line::Sta(sta) => sta.times.start.micros,
+        Line::Cha(cha) => cha.times.start.micros,
         Line::Evt(event) => event.time.micros,
-        Line::Rst(rst) => rst.start.micros,
-        Line::Grt(grt) => grt.start.micros,
+        Line::Rst(rst) => rst.times.start.micros,
+        Line::Grt(grt) => grt.times.start.micros,
         Line::Usr(_) => 0,
+        Line::Wdr(wdr) => wdr.times.start.micros,
         Line::Del(_) => key_view(line).start,
     }
 }
@@ -39,13 +40,14 @@ pub fn end(line: &Line) -> Option<i64>
     ensures { result ≡ end_of (values_of_line line.now).values }
 {
     match line {
-        Line::Net(net) => micros(net.end),
-        Line::Sta(sta) => micros(sta.end),
-        Line::Cha(cha) => micros(cha.end),
+        Line::Net(net) => micros(net.times.end),
+        Line::Sta(sta) => micros(sta.times.end),
+        Line::Cha(cha) => micros(cha.times.end),
         Line::Evt(_) => None,
-        Line::Rst(rst) => micros(rst.end),
-        Line::Grt(grt) => micros(grt.end),
+        Line::Rst(rst) => micros(rst.times.end),
+        Line::Grt(grt) => micros(grt.times.end),
         Line::Usr(_) => None,
+        Line::Wdr(wdr) => micros(wdr.times.end),
         Line::Del(_) => None,
     }
 }

@@ -3,7 +3,7 @@ use Rattle.std.proofs.Common.{◌≡◌, ◌⊎◌, inl, inr, ℕ, ◌≤◌, �
 use Rattle.std.proofs.lemmas.Bool.{cases_Bool, cases_lt, both_ways}
 use Rattle.std.proofs.lemmas.Int.{ints}
 use Rattle.list_laws.specs.Only.{IsOnly}
-use Rattle.exact_time.specs.Decimals.{sign_text, behind_whole, IsDecimal, RefusesDecimal}
+use Rattle.exact_time.specs.Decimals.{whole_of, sign_text, behind_whole, IsDecimal, RefusesDecimal}
 use Rattle.exact_time.specs.MomentText.{IsMoment, RefusesMoment}
 use Rattle.exact_time.specs.declared.moment.Moment.{Moment}
 use Rattle.exact_time.specs.declared.moment.TimeFault.{TimeFault}
@@ -16,8 +16,8 @@ use Rattle.channel_globs.proofs.OneList.{list_or_fault, one_list}
 use Rattle.epochs.specs.declared.parts.Roles.{Roles}
 use Rattle.epochs.specs.declared.quantity.Quantity.{Quantity}
 use Rattle.epochs.specs.declared.quantity.Quantity.TheVariants.{Latitude, Longitude, Azimuth, Dip, Rate, Measure}
-use Rattle.epochs.specs.Kinds.{Text, FieldKind, CodeOf, Words, Time, End, Required, Optional, PatternsOf, EventId, UserName, Ha1, RoleNames}
-use Rattle.epochs.specs.Fields.{Value, code, words, time, end, number, optional, patterns, roles, IsField, IsEnd, IsNumber, IsOptional, IsQuantity, code_of, is_words, is_event_id, is_user_name, is_ha1, roles_of}
+use Rattle.epochs.specs.Kinds.{Text, FieldKind, CodeOf, Words, Time, End, Required, Optional, PatternsOf, EventId, UserName, Ha1, RoleNames, EntryNumber}
+use Rattle.epochs.specs.Fields.{Value, code, words, time, end, number, optional, patterns, roles, entry_number, IsField, IsEntryNumber, IsEnd, IsNumber, IsOptional, IsQuantity, code_of, is_words, is_event_id, is_user_name, is_ha1, roles_of}
 use Rattle.epochs.specs.Lines.{SpellsNone, CanBeField}
 
 -- something has the property, or nothing has
@@ -37,6 +37,7 @@ Spells EventId text value = IsTrue (is_event_id text) × (value ≡ words text)
 Spells UserName text value = IsTrue (is_user_name text) × (value ≡ words text)
 Spells Ha1 text value = IsTrue (is_ha1 text) × (value ≡ words text)
 Spells RoleNames text value = (r : Roles) × (roles_of text ≡ Some r) × (value ≡ roles r)
+Spells EntryNumber text value = (n : ℕ) × IsEntryNumber text n × (value ≡ entry_number n)
 
 pub spells : (kind : FieldKind) (text : Text) (value : Value) → IsField kind text value → Spells kind text value
 spells (CodeOf part) text (code c) h = (c, h, refl)
@@ -50,6 +51,7 @@ spells EventId text (words t) h = (h.1, ap words h.0)
 spells UserName text (words t) h = (h.1, ap words h.0)
 spells Ha1 text (words t) h = (h.1, ap words h.0)
 spells RoleNames text (roles r) h = (r, h, refl)
+spells EntryNumber text (entry_number n) h = (n, h, refl)
 spells _ text _ h = absurd h
 
 -- of one text one moment, one number, one end
@@ -140,6 +142,20 @@ optional_found quantity (c ∷ text) =
       | inr none ↦ inr (λ n. (elim n as (λ m. ¬ (IsOptional quantity (c ∷ text) m)) [ None ↦ λ e. cc | Some m ↦ λ h. none m h ]))
     ]
 
+entry_by : (text : Text) (o : Option ℕ) → whole_of text ≡ o → Found (λ (n : ℕ). IsEntryNumber text n)
+entry_by text None is = inr (λ n h. let e : None ≡ Some n = sym is ∙ h.whole in cc)
+entry_by text (Some m) is =
+    elim (small_or_not 0 m) [
+      | inl zero ↦ inr (λ n h. let e : Some m ≡ Some n = sym is ∙ h.whole in let same : m ≡ n = cc in omega (arith, zero, h.some, same))
+      | inr more ↦ elim (small_or_not 1_000_000_000_000_000_000 m) [
+        | inl small ↦ inl (m, record { whole = is; some = omega (arith, more); small = small })
+        | inr great ↦ inr (λ n h. let e : Some m ≡ Some n = sym is ∙ h.whole in let same : m ≡ n = cc in great (subst (λ (k : ℕ). k ≤ 1_000_000_000_000_000_000) (sym same) h.small))
+      ]
+    ]
+
+entry_found : (text : Text) → Found (λ (n : ℕ). IsEntryNumber text n)
+entry_found text = entry_by text (whole_of text) refl
+
 -- no text at all is no moment and no number
 no_moment : (micros : ℤ) → IsMoment [] micros → ⊥
 no_moment micros h = let e = h.1.date.text_is in cc
@@ -181,6 +197,7 @@ one_spelled EventId text a b h k = h.1 ∙ sym k.1
 one_spelled UserName text a b h k = h.1 ∙ sym k.1
 one_spelled Ha1 text a b h k = h.1 ∙ sym k.1
 one_spelled RoleNames text a b h k = h.2 ∙ ap roles (same_found (roles_of text) h.0 k.0 h.1 k.1) ∙ sym k.2
+one_spelled EntryNumber text a b h k = h.2 ∙ ap entry_number (same_found (whole_of text) h.0 k.0 h.1.whole k.1.whole) ∙ sym k.2
 
 pub one_value : (kind : FieldKind) (text : Text) (a b : Value) → IsField kind text a → IsField kind text b → a ≡ b
 one_value kind text a b h k = one_spelled kind text a b (spells kind text a h) (spells kind text b k)
@@ -209,3 +226,4 @@ field_found EventId text = by_test EventId text (is_event_id text) (λ h. (words
 field_found UserName text = by_test UserName text (is_user_name text) (λ h. (words text, (refl, h))) (λ value h. (spells UserName text value h).0)
 field_found Ha1 text = by_test Ha1 text (is_ha1 text) (λ h. (words text, (refl, h))) (λ value h. (spells Ha1 text value h).0)
 field_found RoleNames text = by_found RoleNames text (λ (r : Roles). roles_of text ≡ Some r) (option_found (roles_of text)) (λ r h. (roles r, h)) (λ value h. let s = spells RoleNames text value h in (s.0, s.1))
+field_found EntryNumber text = by_found EntryNumber text (λ (n : ℕ). IsEntryNumber text n) (entry_found text) (λ n h. (entry_number n, h)) (λ value h. let s = spells EntryNumber text value h in (s.0, s.1))

@@ -8,7 +8,7 @@ use Rattle.std.proofs.lemmas.Slice.Eq.{bytes_eq-Decides}
 use Rattle.epochs.specs.declared.fault.LineFault.{LineFault}
 use Rattle.epochs.specs.declared.fault.LineFault.TheVariants as fault
 use Rattle.epochs.specs.declared.kinds.LineKind.{LineKind}
-use Rattle.epochs.specs.declared.kinds.LineKind.TheVariants.{Net, Sta, Cha, Evt, Rst, Grt, Usr}
+use Rattle.epochs.specs.declared.kinds.LineKind.TheVariants.{Net, Sta, Cha, Evt, Rst, Grt, Usr, Wdr}
 use Rattle.epochs.specs.declared.kinds.Head.{Head}
 use Rattle.epochs.specs.declared.kinds.Head.TheVariants.{Says, Deletes}
 use Rattle.epochs.specs.Kinds.{Text, FieldKind, name_of, head_texts, fields_behind}
@@ -25,7 +25,8 @@ kind_of text =
     cond (bytes_eq text (codes "EVT")) (Some Evt) (
     cond (bytes_eq text (codes "RST")) (Some Rst) (
     cond (bytes_eq text (codes "GRT")) (Some Grt) (
-    cond (bytes_eq text (codes "USR")) (Some Usr) None))))))
+    cond (bytes_eq text (codes "USR")) (Some Usr) (
+    cond (bytes_eq text (codes "WDR")) (Some Wdr) None)))))))
 
 kind_is : (kind : LineKind) → kind_of (name_of kind) ≡ Some kind
 kind_is Net = refl
@@ -35,6 +36,7 @@ kind_is Evt = refl
 kind_is Rst = refl
 kind_is Grt = refl
 kind_is Usr = refl
+kind_is Wdr = refl
 
 named : (text : Text) (name : Text) (kind : LineKind) (rest : Option LineKind) → name ≡ name_of kind → ((k : LineKind) → rest ≡ Some k → text ≡ name_of k) → (k : LineKind) → cond (bytes_eq text name) (Some kind) rest ≡ Some k → text ≡ name_of k
 named text name kind rest is later k e = by_test (bytes_eq text name) refl e
@@ -51,7 +53,8 @@ kind_named text =
     named text (codes "EVT") Evt _ refl (
     named text (codes "RST") Rst _ refl (
     named text (codes "GRT") Grt _ refl (
-    named text (codes "USR") Usr None refl (λ k e. absurd (let f : None ≡ Some k = e in cc))))))))
+    named text (codes "USR") Usr _ refl (
+    named text (codes "WDR") Wdr None refl (λ k e. absurd (let f : None ≡ Some k = e in cc)))))))))
 
 abbrev with_head : (LineKind → Head) → List Text → Option LineKind → Option (Head × List Text)
 with_head head rest None = None
@@ -73,6 +76,7 @@ head_is (Says Evt) rest = refl
 head_is (Says Rst) rest = refl
 head_is (Says Grt) rest = refl
 head_is (Says Usr) rest = refl
+head_is (Says Wdr) rest = refl
 head_is (Deletes kind) rest = ap (with_head Deletes rest) (kind_is kind)
 
 said_by : (text : Text) (texts : List Text) (o : Option LineKind) → kind_of text ≡ o → (h : Head × List Text) → with_head Says texts o ≡ Some h → text ∷ texts ≡ head_texts h.0 ++ h.1

@@ -12,8 +12,8 @@ use Rattle.channel_globs.specs.declared.nslc.Part.{Part}
 use Rattle.channel_globs.specs.declared.nslc.Part.TheVariants.{Network, Station, Location, Channel}
 use Rattle.epochs.specs.declared.parts.Roles.{Roles}
 use Rattle.epochs.specs.declared.quantity.Quantity.{Quantity}
-use Rattle.epochs.specs.Kinds.{Text, FieldKind, CodeOf, Words, Time, End, Required, Optional, PatternsOf, EventId, UserName, Ha1, RoleNames, fields_behind}
-use Rattle.epochs.specs.Fields.{Value, code, words, time, end, number, optional, patterns, roles, IsField, IsEnd, IsNumber, IsOptional, code_of, is_code_text, is_role, are_distinct, has_word, role_words, roles_named, roles_of}
+use Rattle.epochs.specs.Kinds.{Text, FieldKind, CodeOf, Words, Time, End, Required, Optional, PatternsOf, EventId, UserName, Ha1, RoleNames, EntryNumber, fields_behind}
+use Rattle.epochs.specs.Fields.{Value, code, words, time, end, number, optional, patterns, roles, entry_number, IsField, IsEnd, IsNumber, IsOptional, code_of, is_code_text, is_role, are_distinct, has_word, role_words, roles_named, roles_of}
 use Rattle.epochs.specs.Lines.{LineValues, AreValues, IsLine}
 use Rattle.epochs.proofs.SpellableWord.{spellable_is}
 use Rattle.epochs.specs.Spellable.{IsSpellable, IsValueOf, AreValuesOf, IsNumberOf, is_code, is_blank_code}
@@ -96,6 +96,7 @@ spelled_is_value EventId text (words t) h = subst (λ (s : Text). IsValueOf Even
 spelled_is_value UserName text (words t) h = subst (λ (s : Text). IsValueOf UserName (words s)) (sym h.0) h.1
 spelled_is_value Ha1 text (words t) h = subst (λ (s : Text). IsValueOf Ha1 (words s)) (sym h.0) h.1
 spelled_is_value RoleNames text (roles r) h = roles_are_kept text r h
+spelled_is_value EntryNumber text (entry_number n) h = record { some = h.some; small = h.small }
 spelled_is_value _ text _ h = absurd h
 
 pub spelled_are_values : (kinds : List FieldKind) (texts : List Text) (values : List Value) → AreValues kinds texts values → AreValuesOf kinds values

@@ -1,17 +1,21 @@
 -- Each value that a field can have is spelled by some text.
-use Rattle.std.proofs.Common.{◌≡◌, ◌||◌, ◌&&◌, ◌==◌, inl, inr, ℕ, Bool, true, false, cond, ℤ, [], ◌∷◌, Option, Some, None, refl, sym, ap, subst, ◌∙◌, codes}
+use Rattle.std.proofs.Common.{◌≡◌, ◌<◌, ◌≤◌, ◌^◌, ◌||◌, ◌&&◌, ◌==◌, inl, inr, ℕ, Bool, true, false, cond, ℤ, [], ◌∷◌, length, Option, Some, None, refl, sym, ap, subst, ◌∙◌, arith, codes}
 use Rattle.std.specs.Char.{is_ascii_alphanumeric}
+use Rattle.std.specs.Prelude.{decimal, nat_le}
 use Rattle.std.specs.List.{list_all}
-use Rattle.std.proofs.lemmas.Bool.{cases_Bool, and_parts, and_left, or_cases, eqb-true}
-use Rattle.exact_time.specs.Decimals.{decimal_text}
+use Rattle.std.specs.Str.Parse.{digits_value}
+use Rattle.std.proofs.lemmas.Bool.Decides.{nat_tests}
+use Rattle.std.proofs.lemmas.Fmt.{decimal_is_IsNumeral, length-decimal-le}
+use Rattle.std.proofs.lemmas.Bool.{cases_Bool, and_parts, and_from, and_left, or_cases, eqb-true}
+use Rattle.exact_time.specs.Decimals.{decimal_text, whole_of}
 use Rattle.exact_time.specs.Written.{IsNameable}
-use Rattle.exact_time.proofs.DecimalsWritten.{reads_back}
+use Rattle.exact_time.proofs.DecimalsWritten.{from_digits, reads_back}
 use Rattle.channel_globs.specs.PatternText.{is_blank_word}
 use Rattle.channel_globs.specs.declared.nslc.Part.{Part}
 use Rattle.channel_globs.specs.declared.nslc.Part.TheVariants.{Network, Station, Location, Channel}
 use Rattle.epochs.specs.declared.quantity.Quantity.{Quantity}
-use Rattle.epochs.specs.Kinds.{Text, FieldKind, CodeOf, Words, Time, End, Required, Optional, PatternsOf, EventId, UserName, Ha1, RoleNames}
-use Rattle.epochs.specs.Fields.{Value, code, words, time, end, number, optional, patterns, roles, IsField, IsEnd, IsNumber, IsOptional, code_of, is_code_text, roles_of}
+use Rattle.epochs.specs.Kinds.{Text, FieldKind, CodeOf, Words, Time, End, Required, Optional, PatternsOf, EventId, UserName, Ha1, RoleNames, EntryNumber}
+use Rattle.epochs.specs.Fields.{Value, code, words, time, end, number, optional, patterns, roles, entry_number, IsField, IsEntryNumber, IsEnd, IsNumber, IsOptional, code_of, is_code_text, roles_of}
 use Rattle.epochs.specs.Spellable.{IsValueOf, IsNumberOf, IfThere, is_code, is_blank_code}
 use Rattle.epochs.proofs.TextsOfMoments.{text_of_moment}
 
@@ -78,6 +82,17 @@ text_of_roles false false true false h = (codes "operator", refl)
 text_of_roles false false false true h = (codes "replica", refl)
 text_of_roles false false false false h = absurd (let f : false ≡ true = h in cc)
 
+text_of_entry : (n : ℕ) → 1 ≤ n → n ≤ 1_000_000_000_000_000_000 → (text : Text) × IsEntryNumber text n
+text_of_entry n some small =
+    let wide : n < 2 ^ 64 = omega (arith, small) in
+    let numeral = decimal_is_IsNumeral n wide in
+    let long = length-decimal-le 19 n (omega arith) (omega (arith, small)) wide in
+    let digits = from_digits (decimal n) numeral.0.1 in
+    let counted : (nat_le 1 (length (decimal n)) && nat_le (length (decimal n)) 19) ≡ true = grind (arith, nat_tests, numeral.0.0, long) in
+    let is : whole_of (decimal n) ≡ Some n =
+    ap (λ (b : Bool). cond b (Some (digits_value 10 (decimal n))) None) (and_from _ _ counted digits) ∙ ap Some numeral.1 in
+    (decimal n, record { whole = is; some = some; small = small })
+
 pub text_of_value : (kind : FieldKind) (value : Value) → IsValueOf kind value → (text : Text) × IsField kind text value
 text_of_value (CodeOf part) (code c) h = text_of_code part c h
 text_of_value Words (words t) h = (t, (refl, h))
@@ -90,4 +105,5 @@ text_of_value EventId (words t) h = (t, (refl, h))
 text_of_value UserName (words t) h = (t, (refl, h))
 text_of_value Ha1 (words t) h = (t, (refl, h))
 text_of_value RoleNames (roles r) h = text_of_roles r.reader r.feed r.operator r.replica h
+text_of_value EntryNumber (entry_number n) h = text_of_entry n h.some h.small
 text_of_value _ _ h = absurd h

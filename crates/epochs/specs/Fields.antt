@@ -4,14 +4,14 @@ use Rattle.std.specs.List.{list_all, list_any, slice_split}
 use Rattle.std.specs.Str.{bytes_eq, chars}
 use Rattle.std.specs.Char.{is_ascii_alphanumeric, is_ascii_digit, is_control}
 use Rattle.exact_time.specs.MomentText.{IsMoment}
-use Rattle.exact_time.specs.Decimals.{IsDecimal}
+use Rattle.exact_time.specs.Decimals.{IsDecimal, whole_of}
 use Rattle.channel_globs.specs.PatternText.{is_blank, space, comma, IsPatternList}
 use Rattle.channel_globs.specs.declared.nslc.Part.{Part}
 use Rattle.channel_globs.specs.declared.nslc.Part.TheVariants.{Network, Station, Location, Channel}
 use Rattle.epochs.specs.declared.quantity.Quantity.{Quantity}
 use Rattle.epochs.specs.declared.quantity.Quantity.TheVariants.{Latitude, Longitude, Azimuth, Dip, Rate, Measure}
 use Rattle.epochs.specs.declared.parts.Roles.{Roles}
-use Rattle.epochs.specs.Kinds.{Text, FieldKind, CodeOf, Words, Time, End, Required, Optional, PatternsOf, EventId, UserName, Ha1, RoleNames}
+use Rattle.epochs.specs.Kinds.{Text, FieldKind, CodeOf, Words, Time, End, Required, Optional, PatternsOf, EventId, UserName, Ha1, RoleNames, EntryNumber}
 
 -- the value of a field, without where it lies in memory
 pub data Value : Type 0 where
@@ -23,6 +23,7 @@ pub data Value : Type 0 where
   optional : Option ℤ → Value
   patterns : Text → List Text → Value
   roles : Roles → Value
+  entry_number : ℕ → Value
 
 -- how many letters and digits a code has
 abbrev pub least_bytes : Part → ℕ
@@ -142,6 +143,12 @@ roles_of text =
     if list_all is_role (role_words text) && are_distinct (role_words text)
     then Some (roles_named (role_words text)) else None
 
+-- the number of an entry: a whole number from 1 to 10^18
+pub record IsEntryNumber (text : Text) (n : ℕ) : Type 0 where
+  pub whole : whole_of text ≡ Some n
+  pub some : 1 ≤ n
+  pub small : n ≤ 1_000_000_000_000_000_000
+
 -- the text of a field spells this value
 abbrev pub IsField : FieldKind → Text → Value → Type 0
 IsField (CodeOf part) text (code c) = code_of part text ≡ Some c
@@ -155,4 +162,5 @@ IsField EventId text (words t) = (t ≡ text) × IsTrue (is_event_id text)
 IsField UserName text (words t) = (t ≡ text) × IsTrue (is_user_name text)
 IsField Ha1 text (words t) = (t ≡ text) × IsTrue (is_ha1 text)
 IsField RoleNames text (roles r) = roles_of text ≡ Some r
+IsField EntryNumber text (entry_number n) = IsEntryNumber text n
 IsField _ text _ = ⊥

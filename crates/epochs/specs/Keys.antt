@@ -25,11 +25,11 @@ values_of_key (key.Sta network station start) =
     key_values kind.Sta (code network ∷ code station ∷ time_value start ∷ [])
 values_of_key (key.Cha name start) = key_values kind.Cha (name_values name ++ time_value start ∷ [])
 values_of_key (key.Evt id) = key_values kind.Evt (words id ∷ [])
-values_of_key (key.Rst network station location channel start) =
-    key_values kind.Rst (glob_values network station location channel ++ time_value start ∷ [])
-values_of_key (key.Grt user network station location channel start) =
-    key_values kind.Grt (words user ∷ glob_values network station location channel ++ time_value start ∷ [])
+values_of_key (key.Rst channels start) = key_values kind.Rst (glob_values channels ++ time_value start ∷ [])
+values_of_key (key.Grt user channels start) =
+    key_values kind.Grt (words user ∷ glob_values channels ++ time_value start ∷ [])
 values_of_key (key.Usr name) = key_values kind.Usr (words name ∷ [])
+values_of_key (key.Wdr channels start) = key_values kind.Wdr (glob_values channels ++ time_value start ∷ [])
 
 abbrev pub deletes : KeyValues → LineValues
 deletes key = line_values (Deletes key.kind) key.values

@@ -3,7 +3,7 @@ use Rattle.std.specs.Prelude.{ℕ, List, [], ◌∷◌, ◌++◌, Bool, true, fa
 use Rattle.channel_globs.specs.declared.nslc.Part.{Part}
 use Rattle.channel_globs.specs.declared.nslc.Part.TheVariants.{Network, Station, Location, Channel}
 use Rattle.epochs.specs.declared.kinds.LineKind.{LineKind}
-use Rattle.epochs.specs.declared.kinds.LineKind.TheVariants.{Net, Sta, Cha, Evt, Rst, Grt, Usr}
+use Rattle.epochs.specs.declared.kinds.LineKind.TheVariants.{Net, Sta, Cha, Evt, Rst, Grt, Usr, Wdr}
 use Rattle.epochs.specs.declared.kinds.Head.{Head}
 use Rattle.epochs.specs.declared.kinds.Head.TheVariants.{Says, Deletes}
 use Rattle.epochs.specs.declared.quantity.Quantity.{Quantity}
@@ -25,6 +25,7 @@ pub data FieldKind : Type 0 where
   UserName : FieldKind
   Ha1 : FieldKind
   RoleNames : FieldKind
+  EntryNumber : FieldKind
 
 -- a field of a line, and whether it is part of the line's key
 pub record Field : Type 0 where
@@ -96,6 +97,7 @@ fields_of Evt =
 fields_of Rst = pattern_fields ++ epoch_fields
 fields_of Grt = keyed UserName ∷ pattern_fields ++ epoch_fields
 fields_of Usr = keyed UserName ∷ plain Ha1 ∷ plain RoleNames ∷ []
+fields_of Wdr = pattern_fields ++ (epoch_fields ++ plain EntryNumber ∷ [])
 
 -- the first field of a line of that kind
 abbrev pub name_of : LineKind → Text
@@ -106,6 +108,7 @@ name_of Evt = codes "EVT"
 name_of Rst = codes "RST"
 name_of Grt = codes "GRT"
 name_of Usr = codes "USR"
+name_of Wdr = codes "WDR"
 
 -- how a line begins: with its kind, or with DEL and the kind whose key it deletes
 abbrev pub head_texts : Head → List Text

@@ -1,5 +1,5 @@
 -- Which values a field of each kind can have, and so what lines can spell.
-use Rattle.std.specs.Prelude.{◌<◌, ◌==◌, ◌||◌, ◌&&◌, Bool, false, IsTrue, ℤ, unsigned_abs, List, [], ◌∷◌, Option, Some, None, ⊤}
+use Rattle.std.specs.Prelude.{◌<◌, ◌≤◌, ℕ, ◌==◌, ◌||◌, ◌&&◌, Bool, false, IsTrue, ℤ, unsigned_abs, List, [], ◌∷◌, Option, Some, None, ⊤}
 use Rattle.std.specs.Coded.{Unit-prop}
 use Rattle.std.proofs.Props.{props}
 use Rattle.exact_time.specs.Written.{IsNameable}
@@ -8,8 +8,8 @@ use Rattle.channel_globs.specs.declared.nslc.Part.{Part}
 use Rattle.channel_globs.specs.declared.nslc.Part.TheVariants.{Location}
 use Rattle.epochs.specs.declared.quantity.Quantity.{Quantity}
 use Rattle.epochs.specs.declared.quantity.Quantity.TheVariants.{Latitude, Longitude, Azimuth, Dip, Rate, Measure}
-use Rattle.epochs.specs.Kinds.{Text, FieldKind, CodeOf, Words, Time, End, Required, Optional, PatternsOf, EventId, UserName, Ha1, RoleNames, fields_behind}
-use Rattle.epochs.specs.Fields.{Value, code, words, time, end, number, optional, patterns, roles, is_code_text, is_words, is_event_id, is_user_name, is_ha1, IsQuantity}
+use Rattle.epochs.specs.Kinds.{Text, FieldKind, CodeOf, Words, Time, End, Required, Optional, PatternsOf, EventId, UserName, Ha1, RoleNames, EntryNumber, fields_behind}
+use Rattle.epochs.specs.Fields.{Value, code, words, time, end, number, optional, patterns, roles, entry_number, is_code_text, is_words, is_event_id, is_user_name, is_ha1, IsQuantity}
 use Rattle.epochs.specs.Lines.{LineValues, IsAfter, IsInOrder, start_of, end_of}
 
 -- the blank location is kept as two spaces
@@ -30,6 +30,11 @@ abbrev pub IfThere : (ℤ → Type 0) → Option ℤ → Type 0
 IfThere P None = ⊤
 IfThere P (Some n) = P n
 
+-- an entry can have this number
+pub record IsNumberOfEntry (n : ℕ) : Type 0 where
+  pub some : 1 ≤ n
+  pub small : n ≤ 1_000_000_000_000_000_000
+
 -- a field of the kind can have the value
 abbrev pub IsValueOf : FieldKind → Value → Type 0
 IsValueOf (CodeOf part) (code c) = IsTrue (is_code part c)
@@ -43,6 +48,7 @@ IsValueOf EventId (words t) = IsTrue (is_event_id t)
 IsValueOf UserName (words t) = IsTrue (is_user_name t)
 IsValueOf Ha1 (words t) = IsTrue (is_ha1 t)
 IsValueOf RoleNames (roles r) = IsTrue (r.reader || r.feed || r.operator || r.replica)
+IsValueOf EntryNumber (entry_number n) = IsNumberOfEntry n
 IsValueOf _ _ = ⊥
 
 -- fields of these kinds can have these values
@@ -91,6 +97,7 @@ IsValueOf-prop EventId (words t) = hlevel props
 IsValueOf-prop UserName (words t) = hlevel props
 IsValueOf-prop Ha1 (words t) = hlevel props
 IsValueOf-prop RoleNames (roles r) = hlevel props
+IsValueOf-prop EntryNumber (entry_number n) = hlevel props
 IsValueOf-prop _ _ = λ a b. absurd a
 
 AreValuesOf-prop : (kinds : List FieldKind) (values : List Value) → IsProp (AreValuesOf kinds values)

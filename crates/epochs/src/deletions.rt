@@ -1,12 +1,12 @@
 //! Deletions, of the fields behind `DEL` and the kind: those of the key.
 ghost use Rattle.std.specs.Prelude.{◌≡◌, ◌≤◌, ◌<◌, [], ◌∷◌, IfOk, IfErr, length, map};
-ghost use Rattle.epochs.specs.declared.kinds.LineKind.TheVariants.{Net, Sta, Cha, Evt, Rst, Grt, Usr};
+ghost use Rattle.epochs.specs.declared.kinds.LineKind.TheVariants.{Net, Sta, Cha, Evt, Rst, Grt, Usr, Wdr};
 ghost use Rattle.epochs.specs.declared.kinds.Head.TheVariants.{Deletes};
 ghost use Rattle.epochs.specs.Views.{values_of_line};
 ghost use Rattle.epochs.specs.Reading.{IsSpelled, RefusesBehind};
 
 use crate::fault::LineFault;
-use crate::groups::{Globs, read_globs, read_name};
+use crate::groups::{read_globs, read_name};
 use crate::key::Key;
 use crate::kinds::LineKind;
 use crate::line::{Deletion, Line};
@@ -81,21 +81,10 @@ fn rst_deletion(alloc: Global, fields: &[&str]) -> Result<Line, FieldFault>
     let [network, station, location, channel, start] = fields else {
         return Err(FieldFault::Bad(LineFault::Fields));
     };
-    let Globs {
-        network,
-        station,
-        location,
-        channel,
-    } = read_globs(alloc, 3, network, station, location, channel)?;
+    let channels = read_globs(alloc, 3, network, station, location, channel)?;
     let start = read_time(7, start)?;
     Ok(Line::Del(Deletion {
-        key: Key::Rst {
-            network,
-            station,
-            location,
-            channel,
-            start,
-        },
+        key: Key::Rst { channels, start },
     }))
 }
 
@@ -107,22 +96,28 @@ fn grt_deletion(alloc: Global, fields: &[&str]) -> Result<Line, FieldFault>
         return Err(FieldFault::Bad(LineFault::Fields));
     };
     let user = read_user_name(alloc, 3, user)?;
-    let Globs {
-        network,
-        station,
-        location,
-        channel,
-    } = read_globs(alloc, 4, network, station, location, channel)?;
+    let channels = read_globs(alloc, 4, network, station, location, channel)?;
     let start = read_time(8, start)?;
     Ok(Line::Del(Deletion {
         key: Key::Grt {
             user,
-            network,
-            station,
-            location,
-            channel,
+            channels,
             start,
         },
+    }))
+}
+
+fn wdr_deletion(alloc: Global, fields: &[&str]) -> Result<Line, FieldFault>
+    ensures value { IfOk result (λ line. IsSpelled (Deletes Wdr) (map (λ x. x.now) fields.now) (values_of_line line)) }
+    ensures refused { IfErr result (RefusesBehind (Deletes Wdr) (map (λ x. x.now) fields.now)) }
+{
+    let [network, station, location, channel, start] = fields else {
+        return Err(FieldFault::Bad(LineFault::Fields));
+    };
+    let channels = read_globs(alloc, 3, network, station, location, channel)?;
+    let start = read_time(7, start)?;
+    Ok(Line::Del(Deletion {
+        key: Key::Wdr { channels, start },
     }))
 }
 
@@ -152,5 +147,6 @@ pub fn read_deletion(alloc: Global, kind: LineKind, fields: &[&str]) -> Result<L
         LineKind::Rst => rst_deletion(alloc, fields),
         LineKind::Grt => grt_deletion(alloc, fields),
         LineKind::Usr => usr_deletion(alloc, fields),
+        LineKind::Wdr => wdr_deletion(alloc, fields),
     }
 }

@@ -6,86 +6,20 @@ ghost use Rattle.epochs.specs.declared.quantity.Quantity.TheVariants.{Latitude, 
 ghost use Rattle.epochs.specs.Kinds.{CodeOf, Words, Time, End, Required, Optional, PatternsOf, EventId};
 ghost use Rattle.epochs.specs.Fields.{words};
 ghost use Rattle.epochs.specs.Lines.{AreValues, IsAfter};
-ghost use Rattle.epochs.specs.Values.{time_value, number_value, optional_value, name_values, glob_values, epoch_values};
+ghost use Rattle.epochs.specs.Values.{time_value, name_values, glob_values, epoch_values, position_values, sensor_values, response_values, hypocentre_values, attribution_values, magnitude_values};
 ghost use Rattle.epochs.specs.Reading.{RefusesLineFields};
 
-use crate::parts::Glob;
+use crate::parts::{
+    Attribution, EpochTimes, Globs, Hypocentre, Magnitude, Position, Response, Sensor,
+};
 use crate::quantity::Quantity;
 use crate::values::{
     FieldFault, read_code, read_end, read_event_id, read_glob, read_number, read_optional,
     read_time, read_words,
 };
 use channel_globs::{Nslc, Part};
-use exact_time::{Decimal, Moment, Text};
+use exact_time::{Moment, Text};
 use std::alloc::Global;
-
-/// The pattern lists of the four codes.
-#[derive(Drop)]
-pub struct Globs {
-    pub network: Glob,
-    pub station: Glob,
-    pub location: Glob,
-    pub channel: Glob,
-}
-
-/// When an epoch starts, and when it ends, if it does.
-#[derive(Clone, Copy)]
-pub struct EpochTimes {
-    pub start: Moment,
-    pub end: Option<Moment>,
-}
-
-/// Where a station or a sensor stands: degrees, and metres above the sea.
-#[derive(Clone, Copy)]
-pub struct Position {
-    pub latitude: Decimal,
-    pub longitude: Decimal,
-    pub elevation: Decimal,
-}
-
-/// How a sensor stands: metres below the surface, degrees, and its description.
-#[derive(Drop)]
-pub struct Sensor {
-    pub depth: Decimal,
-    pub azimuth: Option<Decimal>,
-    pub dip: Option<Decimal>,
-    pub sensor: Text,
-}
-
-/// What a sensor's samples mean: the scale, its frequency in Hz and its units, and the sample rate in Hz.
-#[derive(Drop)]
-pub struct Response {
-    pub scale: Option<Decimal>,
-    pub scale_freq: Option<Decimal>,
-    pub scale_units: Text,
-    pub sample_rate: Decimal,
-}
-
-/// Where an event was: degrees, and kilometres below the surface.
-#[derive(Clone, Copy)]
-pub struct Hypocentre {
-    pub latitude: Decimal,
-    pub longitude: Decimal,
-    pub depth: Option<Decimal>,
-}
-
-/// Who told of an event.
-#[derive(Drop)]
-pub struct Attribution {
-    pub author: Text,
-    pub catalog: Text,
-    pub contributor: Text,
-    pub contributor_id: Text,
-}
-
-/// How great an event was, who says so, and the name of its place.
-#[derive(Drop)]
-pub struct Magnitude {
-    pub kind: Text,
-    pub magnitude: Option<Decimal>,
-    pub author: Text,
-    pub location: Text,
-}
 
 /// The four codes of a channel.
 pub fn read_name(
@@ -121,7 +55,7 @@ pub fn read_globs(
     channel: &str,
 ) -> Result<Globs, FieldFault>
     requires { number < 100 }
-    ensures value { IfOk result (λ g. AreValues (PatternsOf Network ∷ PatternsOf Station ∷ PatternsOf Location ∷ PatternsOf Channel ∷ []) (network.entry.now ∷ station.entry.now ∷ location.entry.now ∷ channel.entry.now ∷ []) (glob_values g.network g.station g.location g.channel)) }
+    ensures value { IfOk result (λ channels. AreValues (PatternsOf Network ∷ PatternsOf Station ∷ PatternsOf Location ∷ PatternsOf Channel ∷ []) (network.entry.now ∷ station.entry.now ∷ location.entry.now ∷ channel.entry.now ∷ []) (glob_values channels)) }
     ensures refused { IfErr result (RefusesLineFields (PatternsOf Network ∷ PatternsOf Station ∷ PatternsOf Location ∷ PatternsOf Channel ∷ []) number (network.entry.now ∷ station.entry.now ∷ location.entry.now ∷ channel.entry.now ∷ [])) }
 {
     let network = read_glob(alloc, number, Part::Network, network)?;
@@ -139,7 +73,7 @@ pub fn read_globs(
 /// The start and the end of an epoch.
 pub fn read_epoch(number: u64, start: &str, end: &str) -> Result<EpochTimes, FieldFault>
     requires { number < 100 }
-    ensures value { IfOk result (λ e. AreValues (Time ∷ End ∷ []) (start.entry.now ∷ end.entry.now ∷ []) (epoch_values e.start e.end)) }
+    ensures value { IfOk result (λ times. AreValues (Time ∷ End ∷ []) (start.entry.now ∷ end.entry.now ∷ []) (epoch_values times)) }
     ensures refused { IfErr result (RefusesLineFields (Time ∷ End ∷ []) number (start.entry.now ∷ end.entry.now ∷ [])) }
 {
     let start = read_time(number, start)?;
@@ -148,12 +82,12 @@ pub fn read_epoch(number: u64, start: &str, end: &str) -> Result<EpochTimes, Fie
 }
 
 /// Whether an end is after its start; an epoch without an end is open.
-pub fn is_after(start: Moment, end: Option<Moment>) -> bool
-    ensures { IsTrue result ↔ IsAfter (Some start.micros) (option_map (λ moment. moment.micros) end) }
+pub fn is_in_order(times: EpochTimes) -> bool
+    ensures { IsTrue result ↔ IsAfter (Some times.start.micros) (option_map (λ moment. moment.micros) times.end) }
 {
-    match end {
+    match times.end {
         None => true,
-        Some(end) => start < end,
+        Some(end) => times.start < end,
     }
 }
 
@@ -165,7 +99,7 @@ pub fn read_position(
     elevation: &str,
 ) -> Result<Position, FieldFault>
     requires { number < 100 }
-    ensures value { IfOk result (λ p. AreValues (Required Latitude ∷ Required Longitude ∷ Required Measure ∷ []) (latitude.entry.now ∷ longitude.entry.now ∷ elevation.entry.now ∷ []) (number_value p.latitude ∷ number_value p.longitude ∷ number_value p.elevation ∷ [])) }
+    ensures value { IfOk result (λ position. AreValues (Required Latitude ∷ Required Longitude ∷ Required Measure ∷ []) (latitude.entry.now ∷ longitude.entry.now ∷ elevation.entry.now ∷ []) (position_values position)) }
     ensures refused { IfErr result (RefusesLineFields (Required Latitude ∷ Required Longitude ∷ Required Measure ∷ []) number (latitude.entry.now ∷ longitude.entry.now ∷ elevation.entry.now ∷ [])) }
 {
     let latitude = read_number(number, Quantity::Latitude, latitude)?;
@@ -188,7 +122,7 @@ pub fn read_sensor(
     sensor: &str,
 ) -> Result<Sensor, FieldFault>
     requires { number < 100 }
-    ensures value { IfOk result (λ s. AreValues (Required Measure ∷ Optional Azimuth ∷ Optional Dip ∷ Words ∷ []) (depth.entry.now ∷ azimuth.entry.now ∷ dip.entry.now ∷ sensor.entry.now ∷ []) (number_value s.depth ∷ optional_value s.azimuth ∷ optional_value s.dip ∷ words s.sensor ∷ [])) }
+    ensures value { IfOk result (λ read. AreValues (Required Measure ∷ Optional Azimuth ∷ Optional Dip ∷ Words ∷ []) (depth.entry.now ∷ azimuth.entry.now ∷ dip.entry.now ∷ sensor.entry.now ∷ []) (sensor_values read)) }
     ensures refused { IfErr result (RefusesLineFields (Required Measure ∷ Optional Azimuth ∷ Optional Dip ∷ Words ∷ []) number (depth.entry.now ∷ azimuth.entry.now ∷ dip.entry.now ∷ sensor.entry.now ∷ [])) }
 {
     let depth = read_number(number, Quantity::Measure, depth)?;
@@ -213,7 +147,7 @@ pub fn read_response(
     sample_rate: &str,
 ) -> Result<Response, FieldFault>
     requires { number < 100 }
-    ensures value { IfOk result (λ r. AreValues (Optional Measure ∷ Optional Measure ∷ Words ∷ Required Rate ∷ []) (scale.entry.now ∷ scale_freq.entry.now ∷ scale_units.entry.now ∷ sample_rate.entry.now ∷ []) (optional_value r.scale ∷ optional_value r.scale_freq ∷ words r.scale_units ∷ number_value r.sample_rate ∷ [])) }
+    ensures value { IfOk result (λ response. AreValues (Optional Measure ∷ Optional Measure ∷ Words ∷ Required Rate ∷ []) (scale.entry.now ∷ scale_freq.entry.now ∷ scale_units.entry.now ∷ sample_rate.entry.now ∷ []) (response_values response)) }
     ensures refused { IfErr result (RefusesLineFields (Optional Measure ∷ Optional Measure ∷ Words ∷ Required Rate ∷ []) number (scale.entry.now ∷ scale_freq.entry.now ∷ scale_units.entry.now ∷ sample_rate.entry.now ∷ [])) }
 {
     let scale = read_optional(number, Quantity::Measure, scale)?;
@@ -252,7 +186,7 @@ pub fn read_hypocentre(
     depth: &str,
 ) -> Result<Hypocentre, FieldFault>
     requires { number < 100 }
-    ensures value { IfOk result (λ p. AreValues (Required Latitude ∷ Required Longitude ∷ Optional Measure ∷ []) (latitude.entry.now ∷ longitude.entry.now ∷ depth.entry.now ∷ []) (number_value p.latitude ∷ number_value p.longitude ∷ optional_value p.depth ∷ [])) }
+    ensures value { IfOk result (λ hypocentre. AreValues (Required Latitude ∷ Required Longitude ∷ Optional Measure ∷ []) (latitude.entry.now ∷ longitude.entry.now ∷ depth.entry.now ∷ []) (hypocentre_values hypocentre)) }
     ensures refused { IfErr result (RefusesLineFields (Required Latitude ∷ Required Longitude ∷ Optional Measure ∷ []) number (latitude.entry.now ∷ longitude.entry.now ∷ depth.entry.now ∷ [])) }
 {
     let latitude = read_number(number, Quantity::Latitude, latitude)?;
@@ -275,7 +209,7 @@ pub fn read_attribution(
     contributor_id: &str,
 ) -> Result<Attribution, FieldFault>
     requires { number < 100 }
-    ensures value { IfOk result (λ s. AreValues (Words ∷ Words ∷ Words ∷ Words ∷ []) (author.entry.now ∷ catalog.entry.now ∷ contributor.entry.now ∷ contributor_id.entry.now ∷ []) (words s.author ∷ words s.catalog ∷ words s.contributor ∷ words s.contributor_id ∷ [])) }
+    ensures value { IfOk result (λ attribution. AreValues (Words ∷ Words ∷ Words ∷ Words ∷ []) (author.entry.now ∷ catalog.entry.now ∷ contributor.entry.now ∷ contributor_id.entry.now ∷ []) (attribution_values attribution)) }
     ensures refused { IfErr result (RefusesLineFields (Words ∷ Words ∷ Words ∷ Words ∷ []) number (author.entry.now ∷ catalog.entry.now ∷ contributor.entry.now ∷ contributor_id.entry.now ∷ [])) }
 {
     let author = read_words(alloc, number, author)?;
@@ -300,7 +234,7 @@ pub fn read_magnitude(
     location: &str,
 ) -> Result<Magnitude, FieldFault>
     requires { number < 100 }
-    ensures value { IfOk result (λ m. AreValues (Words ∷ Optional Measure ∷ Words ∷ Words ∷ []) (kind.entry.now ∷ magnitude.entry.now ∷ author.entry.now ∷ location.entry.now ∷ []) (words m.kind ∷ optional_value m.magnitude ∷ words m.author ∷ words m.location ∷ [])) }
+    ensures value { IfOk result (λ read. AreValues (Words ∷ Optional Measure ∷ Words ∷ Words ∷ []) (kind.entry.now ∷ magnitude.entry.now ∷ author.entry.now ∷ location.entry.now ∷ []) (magnitude_values read)) }
     ensures refused { IfErr result (RefusesLineFields (Words ∷ Optional Measure ∷ Words ∷ Words ∷ []) number (kind.entry.now ∷ magnitude.entry.now ∷ author.entry.now ∷ location.entry.now ∷ [])) }
 {
     let kind = read_words(alloc, number, kind)?;

@@ -1,4 +1,4 @@
-use crate::parts::Glob;
+use crate::parts::Globs;
 use channel_globs::{Code, Nslc};
 use exact_time::{Moment, Text};
 
@@ -23,21 +23,19 @@ pub enum Key {
         id: Text,
     },
     Rst {
-        network: Glob,
-        station: Glob,
-        location: Glob,
-        channel: Glob,
+        channels: Globs,
         start: Moment,
     },
     Grt {
         user: Text,
-        network: Glob,
-        station: Glob,
-        location: Glob,
-        channel: Glob,
+        channels: Globs,
         start: Moment,
     },
     Usr {
         name: Text,
+    },
+    Wdr {
+        channels: Globs,
+        start: Moment,
     },
 }

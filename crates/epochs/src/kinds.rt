@@ -17,6 +17,8 @@ pub enum LineKind {
     Grt,
     /// A user.
     Usr,
+    /// A withdrawal of records.
+    Wdr,
 }
 
 /// How a line begins.

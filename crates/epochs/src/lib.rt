@@ -15,8 +15,8 @@
 //! The type of a line keeps that its fields are values that a line can spell, and that its end is after
 //! its start (`IsSpellable` of `specs/Spellable.antt`).
 //!
-//! A line is read in groups of fields (`src/groups.rt`), each field by a reader of its own
-//! (`src/values.rt`, `src/roles.rt`); `src/statements.rt` and `src/deletions.rt` have a function for each kind.
+//! A line holds groups of fields that stand together (`src/parts.rt`), and is read by these (`src/groups.rt`), each
+//! field by a reader of its own (`src/values.rt`, `src/roles.rt`); `src/statements.rt` and `src/deletions.rt` have a function for each kind.
 #![tactic(auto)]
 
 mod deletions;
@@ -39,8 +39,11 @@ pub use key::Key;
 pub use law::{a_body_is_one_revision_or_one_fault, a_field_can_have_what_some_text_spells};
 pub use line::{
     ChannelEpoch, Deletion, Event, Grant, Line, NetworkEpoch, Restriction, StationEpoch, User,
+    Withdrawal,
 };
-pub use parts::{Glob, Roles};
+pub use parts::{
+    Attribution, EpochTimes, Glob, Globs, Hypocentre, Magnitude, Position, Response, Roles, Sensor,
+};
 pub use reading::is_skipped;
 pub use revision::read_revision;
 pub use values::{is_ha1, is_user_name};

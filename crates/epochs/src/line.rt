@@ -1,90 +1,63 @@
 ghost use Rattle.epochs.specs.Spellable.{IsSpellable, IsSpellable-prop};
-ghost use Rattle.epochs.specs.Values.{network_line, station_line, channel_line, event_line, restriction_line, grant_line, user_line};
+ghost use Rattle.epochs.specs.Values.{network_line, station_line, channel_line, event_line, restriction_line, grant_line, user_line, withdrawal_line};
 ghost use Rattle.epochs.specs.Keys.{deletion_line};
 
 use crate::key::Key;
-use crate::parts::{Glob, Roles};
+use crate::parts::{
+    Attribution, EpochTimes, Globs, Hypocentre, Magnitude, Position, Response, Roles, Sensor,
+};
 use channel_globs::{Code, Nslc};
-use exact_time::{Decimal, Moment, Text};
+use exact_time::{Moment, Text};
 
 /// A network.
 #[derive(Debug, Drop)]
 pub struct NetworkEpoch {
     pub network: Code,
     pub description: Text,
-    pub start: Moment,
-    pub end: Option<Moment>,
-    pub ghost spellable: { IsSpellable (network_line network description start end) } by { IsSpellable-prop (network_line network description start end) },
+    pub times: EpochTimes,
+    pub ghost spellable: { IsSpellable (network_line network description times) } by { IsSpellable-prop (network_line network description times) },
 }
 
-/// A station. Latitude and longitude are in degrees, the elevation in metres.
+/// A station.
 #[derive(Debug, Drop)]
 pub struct StationEpoch {
     pub network: Code,
     pub station: Code,
-    pub latitude: Decimal,
-    pub longitude: Decimal,
-    pub elevation: Decimal,
+    pub position: Position,
     pub site: Text,
-    pub start: Moment,
-    pub end: Option<Moment>,
-    pub ghost spellable: { IsSpellable (station_line network station latitude longitude elevation site start end) } by { IsSpellable-prop (station_line network station latitude longitude elevation site start end) },
+    pub times: EpochTimes,
+    pub ghost spellable: { IsSpellable (station_line network station position site times) } by { IsSpellable-prop (station_line network station position site times) },
 }
 
-/// A channel. Latitude, longitude, azimuth and dip are in degrees, elevation and depth in metres, the
-/// sample rate in Hz.
+/// A channel.
 #[derive(Debug, Drop)]
 pub struct ChannelEpoch {
     pub name: Nslc,
-    pub latitude: Decimal,
-    pub longitude: Decimal,
-    pub elevation: Decimal,
-    pub depth: Decimal,
-    /// Clockwise from north, 0 to 360.
-    pub azimuth: Option<Decimal>,
-    /// Down from the horizontal, -90 to 90.
-    pub dip: Option<Decimal>,
-    pub sensor: Text,
-    pub scale: Option<Decimal>,
-    /// In Hz.
-    pub scale_freq: Option<Decimal>,
-    pub scale_units: Text,
-    pub sample_rate: Decimal,
-    pub start: Moment,
-    pub end: Option<Moment>,
-    pub ghost spellable: { IsSpellable (channel_line name latitude longitude elevation depth azimuth dip sensor scale scale_freq scale_units sample_rate start end) } by { IsSpellable-prop (channel_line name latitude longitude elevation depth azimuth dip sensor scale scale_freq scale_units sample_rate start end) },
+    pub position: Position,
+    pub sensor: Sensor,
+    pub response: Response,
+    pub times: EpochTimes,
+    pub ghost spellable: { IsSpellable (channel_line name position sensor response times) } by { IsSpellable-prop (channel_line name position sensor response times) },
 }
 
-/// An event. Latitude and longitude are in degrees, the depth in kilometres.
+/// An event.
 #[derive(Debug, Drop)]
 pub struct Event {
     /// 1 to 64 letters, digits and `_ - . : /`.
     pub id: Text,
     pub time: Moment,
-    pub latitude: Decimal,
-    pub longitude: Decimal,
-    pub depth: Option<Decimal>,
-    pub author: Text,
-    pub catalog: Text,
-    pub contributor: Text,
-    pub contributor_id: Text,
-    pub magnitude_kind: Text,
-    pub magnitude: Option<Decimal>,
-    pub magnitude_author: Text,
-    pub location: Text,
-    pub ghost spellable: { IsSpellable (event_line id time latitude longitude depth author catalog contributor contributor_id magnitude_kind magnitude magnitude_author location) } by { IsSpellable-prop (event_line id time latitude longitude depth author catalog contributor contributor_id magnitude_kind magnitude magnitude_author location) },
+    pub hypocentre: Hypocentre,
+    pub attribution: Attribution,
+    pub magnitude: Magnitude,
+    pub ghost spellable: { IsSpellable (event_line id time hypocentre attribution magnitude) } by { IsSpellable-prop (event_line id time hypocentre attribution magnitude) },
 }
 
 /// Channels that only those who have a grant may read.
 #[derive(Debug, Drop)]
 pub struct Restriction {
-    pub network: Glob,
-    pub station: Glob,
-    pub location: Glob,
-    pub channel: Glob,
-    pub start: Moment,
-    pub end: Option<Moment>,
-    pub ghost spellable: { IsSpellable (restriction_line network station location channel start end) } by { IsSpellable-prop (restriction_line network station location channel start end) },
+    pub channels: Globs,
+    pub times: EpochTimes,
+    pub ghost spellable: { IsSpellable (restriction_line channels times) } by { IsSpellable-prop (restriction_line channels times) },
 }
 
 /// Channels that a user may read.
@@ -92,13 +65,19 @@ pub struct Restriction {
 pub struct Grant {
     /// The user's name.
     pub user: Text,
-    pub network: Glob,
-    pub station: Glob,
-    pub location: Glob,
-    pub channel: Glob,
-    pub start: Moment,
-    pub end: Option<Moment>,
-    pub ghost spellable: { IsSpellable (grant_line user network station location channel start end) } by { IsSpellable-prop (grant_line user network station location channel start end) },
+    pub channels: Globs,
+    pub times: EpochTimes,
+    pub ghost spellable: { IsSpellable (grant_line user channels times) } by { IsSpellable-prop (grant_line user channels times) },
+}
+
+/// Records that are withdrawn: they stay in the journal and are in no answer.
+#[derive(Debug, Drop)]
+pub struct Withdrawal {
+    pub channels: Globs,
+    pub times: EpochTimes,
+    /// The number of the last entry whose records it can withdraw, 1 to 10^18.
+    pub upto: u64,
+    pub ghost spellable: { IsSpellable (withdrawal_line channels times upto) } by { IsSpellable-prop (withdrawal_line channels times upto) },
 }
 
 /// A user.
@@ -135,5 +114,6 @@ pub enum Line {
     Rst(Restriction),
     Grt(Grant),
     Usr(User),
+    Wdr(Withdrawal),
     Del(Deletion),
 }

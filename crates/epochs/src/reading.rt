@@ -75,6 +75,7 @@ fn kind_named(text: &str) -> Option<LineKind>
         "RST" => Some(LineKind::Rst),
         "GRT" => Some(LineKind::Grt),
         "USR" => Some(LineKind::Usr),
+        "WDR" => Some(LineKind::Wdr),
         _ => None,
     }
 }

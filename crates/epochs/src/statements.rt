@@ -1,22 +1,23 @@
 //! The lines of each kind, of the fields behind the kind.
 ghost use Rattle.std.specs.Prelude.{◌≡◌, ◌≤◌, ◌<◌, [], ◌∷◌, IfOk, IfErr, length, map};
-ghost use Rattle.epochs.specs.declared.kinds.LineKind.TheVariants.{Net, Sta, Cha, Evt, Rst, Grt, Usr};
+ghost use Rattle.epochs.specs.declared.kinds.LineKind.TheVariants.{Net, Sta, Cha, Evt, Rst, Grt, Usr, Wdr};
 ghost use Rattle.epochs.specs.declared.kinds.Head.TheVariants.{Says};
 ghost use Rattle.epochs.specs.Views.{values_of_line};
 ghost use Rattle.epochs.specs.Reading.{IsSpelled, RefusesBehind};
 
 use crate::fault::LineFault;
 use crate::groups::{
-    Attribution, EpochTimes, Globs, Hypocentre, Magnitude, Position, Response, Sensor, is_after,
-    read_attribution, read_epoch, read_event, read_globs, read_hypocentre, read_magnitude,
-    read_name, read_position, read_response, read_sensor,
+    is_in_order, read_attribution, read_epoch, read_event, read_globs, read_hypocentre,
+    read_magnitude, read_name, read_position, read_response, read_sensor,
 };
 use crate::kinds::LineKind;
 use crate::line::{
-    ChannelEpoch, Event, Grant, Line, NetworkEpoch, Restriction, StationEpoch, User,
+    ChannelEpoch, Event, Grant, Line, NetworkEpoch, Restriction, StationEpoch, User, Withdrawal,
 };
 use crate::roles::read_roles;
-use crate::values::{FieldFault, read_code, read_ha1, read_user_name, read_words};
+use crate::values::{
+    FieldFault, read_code, read_entry_number, read_ha1, read_user_name, read_words,
+};
 use channel_globs::Part;
 use std::alloc::Global;
 
@@ -29,15 +30,14 @@ fn read_net(alloc: Global, fields: &[&str]) -> Result<Line, FieldFault>
     };
     let network = read_code(2, Part::Network, network)?;
     let description = read_words(alloc, 3, description)?;
-    let EpochTimes { start, end } = read_epoch(4, start, end)?;
-    if !is_after(start, end) {
+    let times = read_epoch(4, start, end)?;
+    if !is_in_order(times) {
         return Err(FieldFault::Bad(LineFault::Order));
     }
     Ok(Line::Net(NetworkEpoch {
         network,
         description,
-        start,
-        end,
+        times,
     }))
 }
 
@@ -60,25 +60,18 @@ fn read_sta(alloc: Global, fields: &[&str]) -> Result<Line, FieldFault>
     };
     let network = read_code(2, Part::Network, network)?;
     let station = read_code(3, Part::Station, station)?;
-    let Position {
-        latitude,
-        longitude,
-        elevation,
-    } = read_position(4, latitude, longitude, elevation)?;
+    let position = read_position(4, latitude, longitude, elevation)?;
     let site = read_words(alloc, 7, site)?;
-    let EpochTimes { start, end } = read_epoch(8, start, end)?;
-    if !is_after(start, end) {
+    let times = read_epoch(8, start, end)?;
+    if !is_in_order(times) {
         return Err(FieldFault::Bad(LineFault::Order));
     }
     Ok(Line::Sta(StationEpoch {
         network,
         station,
-        latitude,
-        longitude,
-        elevation,
+        position,
         site,
-        start,
-        end,
+        times,
     }))
 }
 
@@ -109,42 +102,19 @@ fn read_cha(alloc: Global, fields: &[&str]) -> Result<Line, FieldFault>
         return Err(FieldFault::Bad(LineFault::Fields));
     };
     let name = read_name(2, network, station, location, channel)?;
-    let Position {
-        latitude,
-        longitude,
-        elevation,
-    } = read_position(6, latitude, longitude, elevation)?;
-    let Sensor {
-        depth,
-        azimuth,
-        dip,
-        sensor,
-    } = read_sensor(alloc, 9, depth, azimuth, dip, sensor)?;
-    let Response {
-        scale,
-        scale_freq,
-        scale_units,
-        sample_rate,
-    } = read_response(alloc, 13, scale, scale_freq, scale_units, sample_rate)?;
-    let EpochTimes { start, end } = read_epoch(17, start, end)?;
-    if !is_after(start, end) {
+    let position = read_position(6, latitude, longitude, elevation)?;
+    let sensor = read_sensor(alloc, 9, depth, azimuth, dip, sensor)?;
+    let response = read_response(alloc, 13, scale, scale_freq, scale_units, sample_rate)?;
+    let times = read_epoch(17, start, end)?;
+    if !is_in_order(times) {
         return Err(FieldFault::Bad(LineFault::Order));
     }
     Ok(Line::Cha(ChannelEpoch {
         name,
-        latitude,
-        longitude,
-        elevation,
-        depth,
-        azimuth,
-        dip,
+        position,
         sensor,
-        scale,
-        scale_freq,
-        scale_units,
-        sample_rate,
-        start,
-        end,
+        response,
+        times,
     }))
 }
 
@@ -171,37 +141,15 @@ fn read_evt(alloc: Global, fields: &[&str]) -> Result<Line, FieldFault>
         return Err(FieldFault::Bad(LineFault::Fields));
     };
     let (id, time) = read_event(alloc, 2, id, time)?;
-    let Hypocentre {
-        latitude,
-        longitude,
-        depth,
-    } = read_hypocentre(4, latitude, longitude, depth)?;
-    let Attribution {
-        author,
-        catalog,
-        contributor,
-        contributor_id,
-    } = read_attribution(alloc, 7, author, catalog, contributor, contributor_id)?;
-    let Magnitude {
-        kind: magnitude_kind,
-        magnitude,
-        author: magnitude_author,
-        location,
-    } = read_magnitude(alloc, 11, kind, magnitude, magnitude_author, location)?;
+    let hypocentre = read_hypocentre(4, latitude, longitude, depth)?;
+    let attribution = read_attribution(alloc, 7, author, catalog, contributor, contributor_id)?;
+    let magnitude = read_magnitude(alloc, 11, kind, magnitude, magnitude_author, location)?;
     Ok(Line::Evt(Event {
         id,
         time,
-        latitude,
-        longitude,
-        depth,
-        author,
-        catalog,
-        contributor,
-        contributor_id,
-        magnitude_kind,
+        hypocentre,
+        attribution,
         magnitude,
-        magnitude_author,
-        location,
     }))
 }
 
@@ -212,24 +160,12 @@ fn read_rst(alloc: Global, fields: &[&str]) -> Result<Line, FieldFault>
     let [network, station, location, channel, start, end] = fields else {
         return Err(FieldFault::Bad(LineFault::Fields));
     };
-    let Globs {
-        network,
-        station,
-        location,
-        channel,
-    } = read_globs(alloc, 2, network, station, location, channel)?;
-    let EpochTimes { start, end } = read_epoch(6, start, end)?;
-    if !is_after(start, end) {
+    let channels = read_globs(alloc, 2, network, station, location, channel)?;
+    let times = read_epoch(6, start, end)?;
+    if !is_in_order(times) {
         return Err(FieldFault::Bad(LineFault::Order));
     }
-    Ok(Line::Rst(Restriction {
-        network,
-        station,
-        location,
-        channel,
-        start,
-        end,
-    }))
+    Ok(Line::Rst(Restriction { channels, times }))
 }
 
 fn read_grt(alloc: Global, fields: &[&str]) -> Result<Line, FieldFault>
@@ -240,24 +176,35 @@ fn read_grt(alloc: Global, fields: &[&str]) -> Result<Line, FieldFault>
         return Err(FieldFault::Bad(LineFault::Fields));
     };
     let user = read_user_name(alloc, 2, user)?;
-    let Globs {
-        network,
-        station,
-        location,
-        channel,
-    } = read_globs(alloc, 3, network, station, location, channel)?;
-    let EpochTimes { start, end } = read_epoch(7, start, end)?;
-    if !is_after(start, end) {
+    let channels = read_globs(alloc, 3, network, station, location, channel)?;
+    let times = read_epoch(7, start, end)?;
+    if !is_in_order(times) {
         return Err(FieldFault::Bad(LineFault::Order));
     }
     Ok(Line::Grt(Grant {
         user,
-        network,
-        station,
-        location,
-        channel,
-        start,
-        end,
+        channels,
+        times,
+    }))
+}
+
+fn read_wdr(alloc: Global, fields: &[&str]) -> Result<Line, FieldFault>
+    ensures value { IfOk result (λ line. IsSpelled (Says Wdr) (map (λ x. x.now) fields.now) (values_of_line line)) }
+    ensures refused { IfErr result (RefusesBehind (Says Wdr) (map (λ x. x.now) fields.now)) }
+{
+    let [network, station, location, channel, start, end, upto] = fields else {
+        return Err(FieldFault::Bad(LineFault::Fields));
+    };
+    let channels = read_globs(alloc, 2, network, station, location, channel)?;
+    let times = read_epoch(6, start, end)?;
+    let upto = read_entry_number(8, upto)?;
+    if !is_in_order(times) {
+        return Err(FieldFault::Bad(LineFault::Order));
+    }
+    Ok(Line::Wdr(Withdrawal {
+        channels,
+        times,
+        upto,
     }))
 }
 
@@ -287,5 +234,6 @@ pub fn read_statement(alloc: Global, kind: LineKind, fields: &[&str]) -> Result<
         LineKind::Rst => read_rst(alloc, fields),
         LineKind::Grt => read_grt(alloc, fields),
         LineKind::Usr => read_usr(alloc, fields),
+        LineKind::Wdr => read_wdr(alloc, fields),
     }
 }

@@ -4,9 +4,9 @@ ghost use Rattle.std.specs.List.{list_all};
 ghost use Rattle.std.specs.Char.{is_ascii_alphanumeric};
 ghost use Rattle.std.specs.Str.{IsUtf8};
 ghost use Rattle.exact_time.specs.Decimals.{IsDecimal};
-ghost use Rattle.epochs.specs.Kinds.{CodeOf, Words, Time, End, Required, Optional, PatternsOf, EventId, UserName, Ha1};
+ghost use Rattle.epochs.specs.Kinds.{CodeOf, Words, Time, End, Required, Optional, PatternsOf, EventId, UserName, Ha1, EntryNumber};
 ghost use Rattle.epochs.specs.Fields.{IsField, IsQuantity, is_code_text, least_bytes, most_bytes, is_name_byte, is_id_byte, is_event_id, is_user_name, is_lower_hex, is_ha1, has_control, has_bar, is_words};
-ghost use Rattle.epochs.specs.Fields.{code, words, time, end, number, optional, patterns};
+ghost use Rattle.epochs.specs.Fields.{code, words, time, end, number, optional, patterns, entry_number};
 ghost use Rattle.epochs.specs.Reading.{RefusesField, bad_value, field_list_fault};
 ghost use Rattle.epochs.specs.Values.{glob_value, time_value, end_value, number_value, optional_value};
 
@@ -14,11 +14,14 @@ use crate::fault::LineFault;
 use crate::parts::Glob;
 use crate::quantity::Quantity;
 use channel_globs::{Code, GlobFault, Part, PatternList, is_blank_location};
-use exact_time::{Decimal, Moment, OutOfMemory, Text};
+use exact_time::{Decimal, Moment, OutOfMemory, Text, whole_number};
 use std::alloc::{AllocError, Global};
 
 // How many bytes a text may have.
 const MOST_WORDS: usize = 200;
+
+// The greatest number that an entry may be named by.
+const GREATEST_ENTRY: u64 = 1_000_000_000_000_000_000;
 
 /// Why a line, or a field of it, gives no value.
 #[derive(Clone, Copy, Debug, PartialEq, Eq)]
@@ -321,6 +324,20 @@ pub fn read_ha1(number: u64, text: &str) -> Result<[u8; 32], FieldFault>
     let mut digits = [0; 32];
     digits.copy_from_slice(bytes);
     Ok(digits)
+}
+
+/// The number of an entry, 1 to 10^18.
+pub fn read_entry_number(number: u64, text: &str) -> Result<u64, FieldFault>
+    ensures value { IfOk result (λ entry. IsField EntryNumber text.now (entry_number entry)) }
+    ensures refused { IfErr result (RefusesField EntryNumber number text.now) }
+{
+    let Some(entry) = whole_number(text.as_bytes()) else {
+        return Err(bad_value(number));
+    };
+    if entry == 0 || entry > GREATEST_ENTRY {
+        return Err(bad_value(number));
+    }
+    Ok(entry)
 }
 
 fn field_list_fault(number: u64, fault: GlobFault) -> FieldFault

@@ -52,16 +52,19 @@ fn is_text(given: &Option<Text>, text: &Text) -> bool
 fn has_texts(query: &EventQuery, event: &Event) -> bool
     ensures { result ≡ has_texts query.now (event_of (values_of_line (Evt event.now))) }
 {
-    (is_text(&query.id, &event.id) && is_text(&query.catalog, &event.catalog))
-        && (is_text(&query.contributor, &event.contributor)
-            && is_text(&query.magnitude_kind, &event.magnitude_kind))
+    (is_text(&query.id, &event.id) && is_text(&query.catalog, &event.attribution.catalog))
+        && (is_text(&query.contributor, &event.attribution.contributor)
+            && is_text(&query.magnitude_kind, &event.magnitude.kind))
 }
 
 fn has_numbers(query: &EventQuery, event: &Event) -> bool
     ensures { result ≡ has_numbers query.now (event_of (values_of_line (Evt event.now))) }
 {
-    query.area.contains(event.latitude, event.longitude)
-        && (is_within(&query.depth, event.depth) && is_within(&query.magnitude, event.magnitude))
+    query
+        .area
+        .contains(event.hypocentre.latitude, event.hypocentre.longitude)
+        && (is_within(&query.depth, event.hypocentre.depth)
+            && is_within(&query.magnitude, event.magnitude.magnitude))
 }
 
 // Whether a query asks for an event.

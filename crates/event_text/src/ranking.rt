@@ -77,8 +77,8 @@ fn is_apart(order: EventOrder, event: &Event) -> bool
     ensures { result ≡ is_apart order (event_of (values_of_line (Evt event.now))) }
 {
     match order {
-        EventOrder::MagnitudeDown => event.magnitude.is_none(),
-        EventOrder::MagnitudeUp => event.magnitude.is_some(),
+        EventOrder::MagnitudeDown => event.magnitude.magnitude.is_none(),
+        EventOrder::MagnitudeUp => event.magnitude.magnitude.is_some(),
         _ => false,
     }
 }
@@ -89,8 +89,8 @@ fn measure_of(order: EventOrder, event: &Event) -> i128
     match order {
         EventOrder::TimeDown => -(event.time.micros as i128),
         EventOrder::TimeUp => event.time.micros as i128,
-        EventOrder::MagnitudeDown => -millionths(event.magnitude),
-        EventOrder::MagnitudeUp => millionths(event.magnitude),
+        EventOrder::MagnitudeDown => -millionths(event.magnitude.magnitude),
+        EventOrder::MagnitudeUp => millionths(event.magnitude.magnitude),
     }
 }
 

@@ -134,7 +134,7 @@ ascii_short n h =
     IsAscii-from_digits (short_digits (six_digits n)) (all_digits (short_digits (six_digits n)) digits)
 
 -- what is written reads back
-from_digits : (text : List ℕ) → AllDigits 10 text → list_all is_ascii_digit text ≡ true
+pub from_digits : (text : List ℕ) → AllDigits 10 text → list_all is_ascii_digit text ≡ true
 from_digits [] h = refl
 from_digits (c ∷ cs) h =
     let r = digit_from_value c h.0 in

@@ -1,6 +1,6 @@
 -- Decimal numbers as texts, counted in millionths: an optional sign, 1 or more digits, and then, if
 -- wanted, a point and 1 to 6 digits.
-use Rattle.std.specs.Prelude.{◌≡◌, ℕ, ◌+◌, ◌-◌, ◌*◌, ◌/◌, ◌%◌, ◌^◌, ◌<◌, ◌≤◌, ◌==◌, IsTrue, ℤ, pos, negsuc, neg_ℤ, unsigned_abs, List, [], ◌∷◌, ◌++◌, length, take, drop, decimal, if◌then◌else◌}
+use Rattle.std.specs.Prelude.{◌≡◌, ℕ, ◌+◌, ◌-◌, ◌*◌, ◌/◌, ◌%◌, ◌^◌, ◌<◌, ◌≤◌, ◌==◌, ◌&&◌, nat_le, IsTrue, ℤ, pos, negsuc, neg_ℤ, unsigned_abs, List, [], ◌∷◌, ◌++◌, length, take, drop, decimal, Option, Some, None, if◌then◌else◌}
 use Rattle.std.specs.Char.{is_ascii_digit}
 use Rattle.std.specs.List.{list_all}
 use Rattle.std.specs.Str.Parse.{digits_value}
@@ -29,6 +29,11 @@ with_sign Minus n = neg_ℤ (pos n)
 -- each byte is a digit
 abbrev pub AreDigits : List ℕ → Type 0
 AreDigits text = IsTrue (list_all is_ascii_digit text)
+
+-- the whole number that 1 to 19 digits stand for
+abbrev pub whole_of : List ℕ → Option ℕ
+whole_of text =
+    if nat_le 1 (length text) && nat_le (length text) 19 && list_all is_ascii_digit text then Some (digits_value 10 text) else None
 
 -- what stands behind the whole part: nothing, or a point and the decimals
 abbrev pub behind_whole : List ℕ → List ℕ

@@ -2,7 +2,7 @@ ghost use Rattle.std.specs.Prelude.{◌≡◌, ◌-◌, ◌^◌, ◌<◌, ◌≤
 ghost use Rattle.std.specs.Str.Parse.{digits_value};
 ghost use Rattle.list_laws.specs.Only.{IsOnly};
 ghost use Rattle.exact_time.specs.MomentText.{point};
-ghost use Rattle.exact_time.specs.Decimals.{IsDecimal, RefusesDecimal};
+ghost use Rattle.exact_time.specs.Decimals.{IsDecimal, RefusesDecimal, whole_of};
 ghost use Rattle.exact_time.specs.DecimalSteps.{are_digits, parts_of, unsigned_of, decimal_of};
 
 use crate::TimeFault;
@@ -33,6 +33,16 @@ pub fn number_of(digits: &[u8]) -> u64
         number = number * 10 + u64::from(*digit - b'0');
     }
     number
+}
+
+/// The whole number that a text of 1 to 19 digits stands for.
+pub fn whole_number(text: &[u8]) -> Option<u64>
+    ensures { result ≡ whole_of text.now }
+{
+    if text.is_empty() || text.len() > 19 || !are_digits(text) {
+        return None;
+    }
+    Some(number_of(text))
 }
 
 // How many millionths one stands for in the last of so many decimals.

@@ -10,7 +10,7 @@
 //!
 //! Moments, numbers and rates are written by [`Moment::write`] (`specs/Written.antt`),
 //! [`Decimal::write`] and [`Ratio::write`] (`specs/Decimals.antt`), and numbers are read by
-//! [`Decimal::read`]. A number that is written reads back as the same number, and a moment of 1900 to
+//! [`Decimal::read`] and, where they are whole, by [`whole_number`]. A number that is written reads back as the same number, and a moment of 1900 to
 //! 2599 as the same moment; a rate is rounded down to six decimals.
 //!
 //! [`Bytes`], [`Text`] and [`Many`] are seen in contracts as their lists. [`Failed`] is the one error
@@ -35,7 +35,7 @@ mod writing;
 
 pub use civil::btime;
 pub use compare::{cmp_sample_time, cmp_times, gap_at_most, lateness, overlap_at_most, parts};
-pub use decimal::{Decimal, are_digits, number_of};
+pub use decimal::{Decimal, are_digits, number_of, whole_number};
 pub use error::{Failed, OutOfMemory, TextRefusal};
 pub use fields::BTime;
 pub use growing::{Bytes, Many, Text};

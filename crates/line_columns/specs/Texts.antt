@@ -1,12 +1,12 @@
 -- How the values of a line stand in the columns of a text (FDSN Web Service Specifications 1.2, format=text).
-use Rattle.std.specs.Prelude.{ℕ, ℤ, List, [], ◌∷◌, ◌++◌, Option, Some, None, if◌then◌else◌}
+use Rattle.std.specs.Prelude.{ℕ, ℤ, List, [], ◌∷◌, ◌++◌, Option, Some, None, if◌then◌else◌, decimal}
 use Rattle.std.specs.List.{flat_map}
 use Rattle.std.specs.Str.{bytes_eq}
 use Rattle.exact_time.specs.Written.{moment_text}
 use Rattle.exact_time.specs.Decimals.{decimal_text}
 use Rattle.channel_globs.specs.PatternText.{space}
 use Rattle.epochs.specs.Kinds.{Text}
-use Rattle.epochs.specs.Fields.{Value, code, words, time, end, number, optional, patterns, roles, bar}
+use Rattle.epochs.specs.Fields.{Value, code, words, time, end, number, optional, patterns, roles, entry_number, bar}
 
 abbrev pub line_feed : ℕ
 line_feed = 10
@@ -30,6 +30,7 @@ column_text (number n) = decimal_text n
 column_text (optional n) = text_or_none decimal_text n
 column_text (patterns t list) = t
 column_text (roles r) = []
+column_text (entry_number n) = decimal n
 
 -- columns, each further one behind a bar
 abbrev pub behind_bars : List Text → Text

@@ -64,6 +64,13 @@ impl<D: Disk> OwnedDesk<D> {
         }
     }
 
+    /// What is seen, with what it holds.
+    pub fn state(&self) -> &State
+        ensures seen { result.now ≡ self.now.state }
+    {
+        &self.state
+    }
+
     /// How many entries are seen, and what the desk's disk holds.
     pub fn count(&self) -> u64
         ensures count { result ≡ length self.now.state }

@@ -5,7 +5,7 @@ use Rattle.std.proofs.lemmas.Bool.{cases_Bool, cases_lt, both_ways}
 use Rattle.std.proofs.lemmas.Int.{ints}
 use Rattle.std.proofs.lemmas.Slice.Eq.{bytes_eq-Decides}
 use Rattle.list_laws.specs.Only.{IsOnly}
-use Rattle.exact_time.specs.Decimals.{IsDecimal, RefusesDecimal}
+use Rattle.exact_time.specs.Decimals.{IsDecimal, RefusesDecimal, whole_of}
 use Rattle.exact_time.specs.MomentText.{IsMoment, RefusesMoment}
 use Rattle.exact_time.specs.declared.moment.Moment.{Moment}
 use Rattle.exact_time.specs.declared.moment.TimeFault.{TimeFault}
@@ -18,7 +18,7 @@ use Rattle.channel_globs.proofs.OneList.{list_or_fault}
 use Rattle.query_parameters.specs.Listed.{qualities_of, merges_of, spans_order_of, extent_order_of, avail_form_of, is_form_left_out}
 use Rattle.query_parameters.specs.Parameters.{Parameter, given, TakesParameter, RefusesParameter}
 use Rattle.query_parameters.specs.Rows.{Text, Named, place_of_name, kind_of}
-use Rattle.query_parameters.specs.Values.{nodata_of, quality_of, flag_of, level_of, whole_of, event_order_of, is_garbled, IsMinimum, IsDegrees, IsCount, IsEntryNumber, most_latitude, most_longitude, CanRead, Reads, IsLeftOut}
+use Rattle.query_parameters.specs.Values.{nodata_of, quality_of, flag_of, level_of, event_order_of, is_garbled, IsMinimum, IsDegrees, IsCount, IsEntryNumber, most_latitude, most_longitude, CanRead, Reads, IsLeftOut}
 use Rattle.query_parameters.specs.declared.fault.QueryFault.{QueryFault}
 use Rattle.query_parameters.specs.declared.fault.QueryFault.TheVariants.{Unknown, Repeated, OutOfScope, Value}
 use Rattle.query_parameters.specs.declared.rows.ValueKind.{ValueKind}

@@ -3,10 +3,9 @@
 use Rattle.std.specs.Prelude.{◌≡◌, ℕ, ℤ, ◌≤◌, ◌==◌, ◌||◌, ◌&&◌, nat_le, pos, Bool, true, false, List, [], ◌∷◌, length, Option, Some, None, if◌then◌else◌, codes, unsigned_abs, IsTrue, ⊤}
 use Rattle.std.specs.Char.{is_ascii_digit}
 use Rattle.std.specs.Str.{bytes_eq, chars}
-use Rattle.std.specs.Str.Parse.{digits_value}
 use Rattle.std.specs.List.{list_any, list_all}
 use Rattle.exact_time.specs.MomentText.{IsMoment}
-use Rattle.exact_time.specs.Decimals.{IsDecimal}
+use Rattle.exact_time.specs.Decimals.{IsDecimal, whole_of}
 use Rattle.channel_globs.specs.PatternText.{IsPatternList}
 use Rattle.mseed_header.specs.declared.quality.Quality.{Quality}
 use Rattle.mseed_header.specs.declared.quality.Quality.TheVariants.{D, M, Q, R}
@@ -50,11 +49,6 @@ abbrev pub flag_of : Text → Option Bool
 flag_of text =
     if same_name text (codes "true") || bytes_eq text (codes "1") then Some true
     else (if same_name text (codes "false") || bytes_eq text (codes "0") then Some false else None)
-
--- the whole number that 1 to 19 digits stand for
-abbrev pub whole_of : Text → Option ℕ
-whole_of text =
-    if nat_le 1 (length text) && nat_le (length text) 19 && list_all is_ascii_digit text then Some (digits_value 10 text) else None
 
 -- a decimal from 0 to 10^10, counted in millionths
 pub record IsMinimum (text : Text) (micros : ℕ) : Type 0 where

@@ -1,12 +1,12 @@
 //! The values of single parameters.
 ghost use Rattle.std.specs.Prelude.{◌≡◌, ◌≤◌, ◌↔◌, IsTrue, unsigned_abs, Option, Some, None, ℕ, ℤ, MatchResult};
-ghost use Rattle.exact_time.specs.Decimals.{IsDecimal};
-ghost use Rattle.query_parameters.specs.Values.{asked_of, quality_of, nodata_of, flag_of, whole_of, level_of, event_order_of, IsMinimum, IsCount, IsEntryNumber, IsDegrees};
+ghost use Rattle.exact_time.specs.Decimals.{IsDecimal, whole_of};
+ghost use Rattle.query_parameters.specs.Values.{asked_of, quality_of, nodata_of, flag_of, level_of, event_order_of, IsMinimum, IsCount, IsEntryNumber, IsDegrees};
 
 use crate::level::Level;
 use crate::order::EventOrder;
 use dataselect::Nodata;
-use exact_time::{Decimal, are_digits, number_of};
+use exact_time::{Decimal, whole_number};
 use mseed_header::Quality;
 
 // The greatest minimum length: 10^10 seconds, in microseconds.
@@ -50,10 +50,10 @@ pub fn read_quality(text: &[u8]) -> Result<Option<Quality>, BadValue>
 pub fn read_whole(text: &[u8]) -> Result<u64, BadValue>
     ensures exact { MatchResult result (λ n. whole_of text.now ≡ Some n) (λ _. whole_of text.now ≡ None) }
 {
-    if text.is_empty() || text.len() > 19 || !are_digits(text) {
-        return Err(BadValue);
+    match whole_number(text) {
+        Some(number) => Ok(number),
+        None => Err(BadValue),
     }
-    Ok(number_of(text))
 }
 
 /// The least length of a segment (`minimumlength`): a decimal of seconds from 0 to 10^10, given in

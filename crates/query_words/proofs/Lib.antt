@@ -4,8 +4,8 @@ pub mod AvailSaid
 pub mod EventFound
 pub mod EventSaid
 pub mod Examples
-pub mod Feeds
 pub mod GetFound
+pub mod Numbers
 pub mod OneAvail
 pub mod OneDataGet
 pub mod OneDataPost

@@ -6,7 +6,7 @@ pub mod DataGet
 pub mod DataPost
 pub mod EventGet
 pub mod EventOptions
-pub mod FeedGet
+pub mod NumberGet
 pub mod Options
 pub mod StationGet
 pub mod StationOptions

@@ -1,6 +1,6 @@
 -- The names of the methods (FDSN Web Service Specifications 1.2, dataselect, station and event, query
 -- parameters).
-use Rattle.std.specs.Prelude.{List, [], ◌∷◌, codes}
+use Rattle.std.specs.Prelude.{ℕ, List, [], ◌∷◌, codes}
 use Rattle.channel_globs.specs.declared.nslc.Part.TheVariants.{Network, Station, Location, Channel}
 use Rattle.query_parameters.specs.Rows.{Named, with_alias, alone}
 use Rattle.query_parameters.specs.declared.rows.ValueKind.TheVariants.{Time, Patterns, Nodata, Quality, Seconds, Flag, Format, Decimal, Count, EntryNumber, Text, EventOrder, Latitude, Longitude, Level, TextForm, Always, Never, LeftOut}
@@ -91,6 +91,6 @@ event_names =
     ∷ alone (codes "updatedafter") LeftOut
     ∷ []
 
--- the name of the feed of entries
-abbrev pub feed_names : List Named
-feed_names = alone (codes "seq") EntryNumber ∷ []
+-- the name of a method that takes the number of an entry and nothing else
+abbrev pub number_names : List ℕ → List Named
+number_names name = alone name EntryNumber ∷ []

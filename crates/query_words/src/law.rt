@@ -10,7 +10,7 @@ ghost use Rattle.query_words.specs.AvailPost.{IsAvailPost, IsAvailPostFault};
 ghost use Rattle.query_words.specs.declared.avail.AvailMethod.{AvailMethod};
 ghost use Rattle.query_words.specs.declared.avail.AvailQuery.{AvailQuery};
 ghost use Rattle.query_words.specs.EventGet.{IsEventGet, IsEventGetFault};
-ghost use Rattle.query_words.specs.FeedGet.{IsFeedGet, IsFeedGetFault};
+ghost use Rattle.query_words.specs.NumberGet.{IsNumberGet, IsNumberGetFault};
 ghost use Rattle.query_words.specs.declared.event.EventQuery.{EventQuery};
 ghost use Rattle.query_words.specs.StationGet.{IsStationGet, IsStationGetFault};
 ghost use Rattle.query_words.specs.StationPost.{IsStationPost, IsStationPostFault};
@@ -42,9 +42,9 @@ pub fn a_query_string_for_events_is_one_query_or_one_fault()
     ensures { (text : Text) → (answer : Result EventQuery QueryFault) × IsOnly (IsEventGet text) (IsEventGetFault text) answer }
 {}
 
-/// Every query string names exactly one entry of the feed, or has exactly one fault.
-pub fn a_query_string_for_the_feed_is_one_number_or_one_fault()
-    ensures { (text : Text) → (answer : Result ℕ QueryFault) × IsOnly (IsFeedGet text) (IsFeedGetFault text) answer }
+/// Every query string gives exactly one number under the one name of its method, or has exactly one fault.
+pub fn a_query_string_for_a_number_is_one_number_or_one_fault()
+    ensures { (name text : Text) → (answer : Result ℕ QueryFault) × IsOnly (IsNumberGet name text) (IsNumberGetFault name text) answer }
 {}
 
 /// Every query string asks a method of availability for exactly one query, or has exactly one fault.

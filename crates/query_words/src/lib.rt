@@ -8,7 +8,7 @@
 //! [`QueryFault::OutOfMemory`] needs no cause. [`station_get`] and [`station_post`] do the same for stations
 //! (`specs/StationGet.antt`, `specs/StationPost.antt`), [`avail_get`] and [`avail_post`] for spans and extents
 //! (`specs/AvailGet.antt`, `specs/AvailPost.antt`), [`event_get`] for events (`specs/EventGet.antt`), and
-//! [`feed_get`] for the number of an entry (`specs/FeedGet.antt`).
+//! [`feed_get`] and [`entries_get`] for the number of an entry (`specs/NumberGet.antt`).
 //!
 //! Which names a method has, and what kind of value each takes, stands in a table
 //! (`specs/Tables.antt`, `specs/AvailTables.antt`, `src/tables.rt`), by which `query_parameters` reads the words of a query. What
@@ -20,9 +20,9 @@ mod avail;
 mod avails;
 mod event;
 mod events;
-mod feed;
 mod get;
 mod law;
+mod number;
 mod places;
 mod post;
 mod station;
@@ -34,16 +34,15 @@ pub use avail::{AvailMethod, AvailQuery};
 pub use avails::{avail_get, avail_post};
 pub use event::EventQuery;
 pub use events::event_get;
-pub use feed::feed_get;
 pub use get::data_get;
 pub use law::{
     a_body_for_availability_is_one_query_or_one_fault, a_body_is_one_query_or_one_fault,
+    a_query_string_for_a_number_is_one_number_or_one_fault,
     a_query_string_for_availability_is_one_query_or_one_fault,
-    a_query_string_for_events_is_one_query_or_one_fault,
-    a_query_string_for_the_feed_is_one_number_or_one_fault,
-    a_query_string_is_one_query_or_one_fault, a_station_body_is_one_query_or_one_fault,
-    a_station_query_string_is_one_query_or_one_fault,
+    a_query_string_for_events_is_one_query_or_one_fault, a_query_string_is_one_query_or_one_fault,
+    a_station_body_is_one_query_or_one_fault, a_station_query_string_is_one_query_or_one_fault,
 };
+pub use number::{entries_get, feed_get};
 pub use post::data_post;
 pub use query_parameters::{
     Area, AvailForm, AvailOrder, BadValue, EventOrder, Level, Limits2, QualitySet, QueryFault,

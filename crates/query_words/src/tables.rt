@@ -3,7 +3,7 @@ ghost use Rattle.std.specs.Prelude.{◌≡◌};
 ghost use Rattle.query_parameters.specs.Rows.{names_of};
 ghost use Rattle.query_words.specs.AvailTables.{avail_names};
 ghost use Rattle.query_words.specs.declared.avail.AvailMethod.TheVariants.{Spans, Extent};
-ghost use Rattle.query_words.specs.Tables.{data_names, station_names, event_names, feed_names};
+ghost use Rattle.query_words.specs.Tables.{data_names, station_names, event_names, number_names};
 
 use channel_globs::Part;
 use query_parameters::{ParameterName, ValueKind};
@@ -107,11 +107,11 @@ pub fn event_names() -> [ParameterName; 28]
     ]
 }
 
-/// The name of the feed of entries.
-pub fn feed_names() -> [ParameterName; 1]
-    ensures { names_of result ≡ feed_names }
+/// The name of a method that takes the number of an entry and nothing else.
+pub fn number_names(name: &'static str) -> [ParameterName; 1]
+    ensures { names_of result ≡ number_names name.now }
 {
-    [ParameterName::new("seq", ValueKind::EntryNumber)]
+    [ParameterName::new(name, ValueKind::EntryNumber)]
 }
 
 /// The names of availability's spans: the times, the codes, and behind them the options.

@@ -1,20 +1,19 @@
 -- The definitions, on paths.
 use Rattle.std.proofs.Common.{◌≡◌, refl, codes, Some, None, [], false}
-use Rattle.archive_entry.specs.declared.entry.Kind.TheVariants.{Revise}
 use Rattle.http_replies.specs.declared.reply.Allow.TheVariants.{Both}
 use Rattle.service_paths.specs.Paths.{page_of, path_of, query_of, is_allowed}
 use Rattle.service_paths.specs.declared.page.Access.TheVariants.{Signed}
-use Rattle.service_paths.specs.declared.page.Asked.TheVariants.{Extents}
-use Rattle.service_paths.specs.declared.page.Page.TheVariants.{Query, Feed}
+use Rattle.service_paths.specs.declared.page.Asked.TheVariants.{Extents, Entries}
+use Rattle.service_paths.specs.declared.page.Page.TheVariants.{Query}
 
 -- a row from the midst of the table, and its last
 extents : page_of (codes "/fdsnws/availability/1/extentauth") ≡ Some (Query Extents Signed)
 unfolding page_of
 extents = refl
 
-revisions : page_of (codes "/feed/1/revise") ≡ Some (Feed Revise)
+entries : page_of (codes "/archive/1/entries") ≡ Some (Query Entries Signed)
 unfolding page_of
-revisions = refl
+entries = refl
 
 -- no slash is passed over, and no case
 slash_behind : page_of (codes "/feed/1/batch/") ≡ None

@@ -46,10 +46,10 @@ from_none (Some x) e = absurd (true≢false (sym e))
 
 -- a path of the table is plain, and no row before it has the same
 plain_at : (i : ℕ) → i < length routes → is_plain (get_or routes i no_row).path ≡ true
-plain_at i l = passes_at (λ k. is_plain (get_or routes k no_row).path) 14 i refl l
+plain_at i l = passes_at (λ k. is_plain (get_or routes k no_row).path) 15 i refl l
 
 new_at : (i : ℕ) → i < length routes → page_in (take i routes) (get_or routes i no_row).path ≡ None
-new_at i l = from_none _ (passes_at (λ k. is_none (page_in (take k routes) (get_or routes k no_row).path)) 14 i refl l)
+new_at i l = from_none _ (passes_at (λ k. is_none (page_in (take k routes) (get_or routes k no_row).path)) 15 i refl l)
 
 -- bytes that are no text stand in no table of plain texts
 not_text : (rows : List Row) (path : List ℕ) → list_all (λ r. is_plain r.path) rows ≡ true → (IsUtf8 path → ⊥) → page_in rows path ≡ None
@@ -73,22 +73,22 @@ routed router path holds = ap (option_map (λ (r : RouteOf Page). r.value)) (fir
 
 -- a table in code that is this one, at a place
 module _ (table : List Route) (i : ℕ) (none : Route) where
-  row_at : rows_of table ≡ routes → i < 14 → get_or routes i no_row ≡ row_of (get_or table i none)
+  row_at : rows_of table ≡ routes → i < 15 → get_or routes i no_row ≡ row_of (get_or table i none)
   row_at same within =
-      let as_long : length table ≡ 14 = sym (length-map table row_of) ∙ ap length same in
+      let as_long : length table ≡ 15 = sym (length-map table row_of) ∙ ap length same in
       sym (ap (λ (rows : List Row). get_or rows i no_row) same) ∙ get_or-map row_of table i none no_row (omega arith)
 
-  pub plain_route_at : rows_of table ≡ routes → i < 14 → is_plain (get_or table i none).path.now ≡ true
+  pub plain_route_at : rows_of table ≡ routes → i < 15 → is_plain (get_or table i none).path.now ≡ true
   plain_route_at same within = sym (ap (λ (r : Row). is_plain r.path) (row_at same within)) ∙ plain_at i within
 
-  new_row_at : rows_of table ≡ routes → i < 14 → page_in (take i routes) (get_or table i none).path.now ≡ None
+  new_row_at : rows_of table ≡ routes → i < 15 → page_in (take i routes) (get_or table i none).path.now ≡ None
   new_row_at same within = sym (ap (λ (r : Row). page_in (take i routes) r.path) (row_at same within)) ∙ new_at i within
 
-  pub new_route_at : rows_of table ≡ routes → i < 14 → (router : RowsOf (RouteOf Page)) → HoldsRows (take i routes) router
+  pub new_route_at : rows_of table ≡ routes → i < 15 → (router : RowsOf (RouteOf Page)) → HoldsRows (take i routes) router
       → lookup (get_or table i none).path.now router ≡ None
   new_route_at same within router holds = no_route (take i routes) router (get_or table i none).path.now holds (new_row_at same within)
 
-  pub one_more : rows_of table ≡ routes → i < 14 → (router : RowsOf (RouteOf Page)) → HoldsRows (take i routes) router
+  pub one_more : rows_of table ≡ routes → i < 15 → (router : RowsOf (RouteOf Page)) → HoldsRows (take i routes) router
       → HoldsRows (take (i + 1) routes) (placed (plain_route (get_or table i none).path.now (get_or table i none).page) router)
   one_more same within router holds =
       let route = get_or table i none in
@@ -99,5 +99,5 @@ module _ (table : List Route) (i : ℕ) (none : Route) where
 pub no_rows : HoldsRows [] []
 no_rows = record { static = tt; pages = λ path. refl }
 
-pub all_rows : (i : ℕ) (router : RowsOf (RouteOf Page)) → 14 ≤ i → HoldsRows (take i routes) router → HoldsRows routes router
+pub all_rows : (i : ℕ) (router : RowsOf (RouteOf Page)) → 15 ≤ i → HoldsRows (take i routes) router → HoldsRows routes router
 all_rows i router end holds = subst (λ (rows : List Row). HoldsRows rows router) (take_all i routes end) holds

@@ -8,7 +8,7 @@ use Rattle.http_replies.specs.declared.reply.Allow.{Allow}
 use Rattle.http_replies.specs.declared.reply.Allow.TheVariants as allow
 use Rattle.service_paths.specs.declared.page.Access.TheVariants.{Open, Signed}
 use Rattle.service_paths.specs.declared.page.Asked.{Asked}
-use Rattle.service_paths.specs.declared.page.Asked.TheVariants.{Records, Spans, Extents, Stations, Events}
+use Rattle.service_paths.specs.declared.page.Asked.TheVariants.{Records, Spans, Extents, Stations, Events, Entries}
 use Rattle.service_paths.specs.declared.page.Page.{Page}
 use Rattle.service_paths.specs.declared.page.Page.TheVariants.{Query, Version, Feed}
 use Rattle.service_paths.specs.declared.page.Service.{Service}
@@ -49,6 +49,7 @@ routes =
     ∷ row (codes "/fdsnws/event/1/version") (Version Event)
     ∷ row (codes "/feed/1/batch") (Feed Batch)
     ∷ row (codes "/feed/1/revise") (Feed Revise)
+    ∷ row (codes "/archive/1/entries") (Query Entries Signed)
     ∷ []
 
 -- the page of the row whose path is exactly this one
@@ -59,13 +60,14 @@ page_in rows path = option_map (λ r. r.page) (find (λ r. bytes_eq r.path path)
 unfoldable pub page_of : List ℕ → Option Page
 page_of path = page_in routes path
 
--- what a query is asked by: GET or POST, and GET alone for events
+-- what a query is asked by: GET or POST, and GET alone for events and for entries
 abbrev pub query_methods : Asked → Allow
 query_methods Records = allow.Both
 query_methods Spans = allow.Both
 query_methods Extents = allow.Both
 query_methods Stations = allow.Both
 query_methods Events = allow.Get
+query_methods Entries = allow.Get
 
 -- the methods that a page has: a version is asked for by GET, and the feed takes POST
 abbrev pub methods_of : Page → Allow

@@ -8,7 +8,7 @@
 //!
 //! The table, `routes` there, is that of `FDSN Web Service Specifications 1.2` (dataselect, station and event:
 //! the methods query, queryauth and version) and of `fdsnws-availability 1.0` (query, extent, queryauth,
-//! extentauth and version), beside two paths of this data centre's own, by which entries are brought.
+//! extentauth and version), beside three paths of this data centre's own, by which entries are brought and copied.
 //! [`routes`] is the same table in code, from which a help text can be written.
 //!
 //! A path is found by the router of `matchit`, which is made of the table's rows (`src/routing.rt`). No path of

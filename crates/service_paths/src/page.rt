@@ -18,6 +18,8 @@ pub enum Asked {
     Stations,
     /// Events (FDSN Web Service Specifications 1.2, event).
     Events,
+    /// The entries of the archive from a number on, as a replica copies them.
+    Entries,
 }
 
 /// Whether a path asks who asks.
@@ -56,8 +58,8 @@ pub enum Page {
 
 impl Page {
     /// The methods that a page has (FDSN Web Service Specifications 1.2, and of availability
-    /// fdsnws-availability 1.0): a query is asked by `GET` or `POST`, and of events by `GET` alone; a version by
-    /// `GET`; the feed takes `POST`.
+    /// fdsnws-availability 1.0): a query is asked by `GET` or `POST`, and of events and of entries by `GET` alone; a
+    /// version by `GET`; the feed takes `POST`.
     pub fn methods(self) -> Allow
         ensures { result ≡ methods_of self }
     {
@@ -74,7 +76,7 @@ impl Asked {
         ensures { result ≡ query_methods self }
     {
         match self {
-            Asked::Events => Allow::Get,
+            Asked::Events | Asked::Entries => Allow::Get,
             _ => Allow::Both,
         }
     }

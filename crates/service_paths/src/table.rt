@@ -49,7 +49,7 @@ impl Route {
 }
 
 /// The table of the paths (FDSN Web Service Specifications 1.2, and of availability fdsnws-availability 1.0).
-pub fn routes() -> [Route; 14]
+pub fn routes() -> [Route; 15]
     ensures { rows_of result ≡ routes }
 {
     [
@@ -67,5 +67,6 @@ pub fn routes() -> [Route; 14]
         Route::version("/fdsnws/event/1/version", Service::Event),
         Route::feed("/feed/1/batch", Kind::Batch),
         Route::feed("/feed/1/revise", Kind::Revise),
+        Route::signed("/archive/1/entries", Asked::Entries),
     ]
 }

@@ -1,6 +1,8 @@
 //! Bytes with names, and texts in which a name in braces stands for them.
 use case_lines::unescaped;
-use centre::{DRILL_HELP, FETCH_HELP, HELP, INIT_HELP, SELECT_HELP, SERVE_HELP, TALK_HELP};
+use centre::{
+    COVERAGE_HELP, DRILL_HELP, FETCH_HELP, HELP, INIT_HELP, SELECT_HELP, SERVE_HELP, TALK_HELP,
+};
 use exact_time::{Bytes, Many, OutOfMemory};
 use sample_data::{EPOCHS, FOUNDED, USERS, anmo_record};
 use std::alloc::Global;
@@ -45,6 +47,7 @@ impl Names {
             "serve-help" => return SERVE_HELP.as_bytes(),
             "drill-help" => return DRILL_HELP.as_bytes(),
             "fetch-help" => return FETCH_HELP.as_bytes(),
+            "coverage-help" => return COVERAGE_HELP.as_bytes(),
             "users" => return USERS.as_bytes(),
             "epochs" => return EPOCHS.as_bytes(),
             _ => {}

@@ -34,31 +34,31 @@ fn takes_all_channels(selection: &Selection) -> bool
 
 /// The epoch of a network.
 pub fn network_epoch(network: &NetworkEpoch) -> Epoch
-    ensures { (result.start ≡ network.now.start) × (result.end ≡ network.now.end) }
+    ensures { (result.start ≡ network.now.times.start) × (result.end ≡ network.now.times.end) }
 {
     Epoch {
-        start: network.start,
-        end: network.end,
+        start: network.times.start,
+        end: network.times.end,
     }
 }
 
 /// The epoch of a station.
 pub fn station_epoch(station: &StationEpoch) -> Epoch
-    ensures { (result.start ≡ station.now.start) × (result.end ≡ station.now.end) }
+    ensures { (result.start ≡ station.now.times.start) × (result.end ≡ station.now.times.end) }
 {
     Epoch {
-        start: station.start,
-        end: station.end,
+        start: station.times.start,
+        end: station.times.end,
     }
 }
 
 /// The epoch of a channel.
 pub fn channel_epoch(channel: &ChannelEpoch) -> Epoch
-    ensures { (result.start ≡ channel.now.start) × (result.end ≡ channel.now.end) }
+    ensures { (result.start ≡ channel.now.times.start) × (result.end ≡ channel.now.times.end) }
 {
     Epoch {
-        start: channel.start,
-        end: channel.end,
+        start: channel.times.start,
+        end: channel.times.end,
     }
 }
 
@@ -161,7 +161,7 @@ fn is_wanted(area: &Area, selection: &Selection, station: &StationEpoch) -> bool
     ensures { result ≡ is_wanted area.now selection.now (values_of_line (Sta station.now)) }
 {
     selection.station.matches(&station.station)
-        && area.contains(station.latitude, station.longitude)
+        && area.contains(station.position.latitude, station.position.longitude)
 }
 
 // Whether a network may be asked for by the station.
@@ -313,7 +313,9 @@ pub fn is_eligible_station(query: &StationQuery, station: &StationEpoch) -> bool
     ensures { result ≡ is_eligible query.now (values_of_line (Sta station.now)) }
 {
     station_epoch(station).passes_comparisons(query)
-        && query.area.contains(station.latitude, station.longitude)
+        && query
+            .area
+            .contains(station.position.latitude, station.position.longitude)
 }
 
 /// Whether the channel passes the comparisons and lies in the area.
@@ -321,7 +323,9 @@ pub fn is_eligible_channel(query: &StationQuery, channel: &ChannelEpoch) -> bool
     ensures { result ≡ is_eligible query.now (values_of_line (Cha channel.now)) }
 {
     channel_epoch(channel).passes_comparisons(query)
-        && query.area.contains(channel.latitude, channel.longitude)
+        && query
+            .area
+            .contains(channel.position.latitude, channel.position.longitude)
 }
 
 /// Whether the line is that of a network that is asked for.

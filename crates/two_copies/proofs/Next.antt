@@ -4,7 +4,7 @@ use Rattle.std.proofs.lemmas.Bool.{and_parts}
 use Rattle.archive_entry.specs.declared.entry.Entry.{Entry}
 use Rattle.archive_state.specs.Lawful.{IsLawful, is_lawful, is_next}
 use Rattle.archive_state.specs.States.{CanAbsorb}
-use Rattle.archive_state.proofs.Absorbs.{next_absorbs}
+use Rattle.archive_state.proofs.NextEntry.{next_absorbs}
 use Rattle.archive_state.proofs.Growth.{lawful_more}
 
 last_parts : (h : List Entry) (e : Entry) → IsLawful (h ++ e ∷ []) → (is_lawful h ≡ true) × (is_next h e ≡ true)

@@ -4,8 +4,8 @@ use dataselect::{DataQuery, Selection};
 use exact_time::{OutOfMemory, Text};
 use query_words::{
     AvailMethod, AvailQuery, EventQuery, QueryFault, StationQuery, avail_get, avail_post, data_get,
-    data_post, event_get, feed_get, read_flag, read_minimum, read_nodata, read_quality, read_whole,
-    station_get, station_post,
+    data_post, entries_get, event_get, feed_get, read_flag, read_minimum, read_nodata,
+    read_quality, read_whole, station_get, station_post,
 };
 use std::alloc::Global;
 
@@ -150,7 +150,7 @@ fn of_avail(
     }
 }
 
-fn of_feed(
+fn of_number(
     alloc: Global,
     out: &mut Text,
     read: Result<u64, QueryFault>,
@@ -186,7 +186,8 @@ pub fn show(alloc: Global, call: &str, given: &[u8], out: &mut Text) -> Result<(
         "spans-post" => of_avail(alloc, out, avail_post(alloc, given, AvailMethod::Spans)),
         "extent-get" => of_avail(alloc, out, avail_get(alloc, given, AvailMethod::Extent)),
         "extent-post" => of_avail(alloc, out, avail_post(alloc, given, AvailMethod::Extent)),
-        "feed-get" => of_feed(alloc, out, feed_get(alloc, given)),
+        "feed-get" => of_number(alloc, out, feed_get(alloc, given)),
+        "entries-get" => of_number(alloc, out, entries_get(alloc, given)),
         _ => put_value(alloc, call, given, out),
     }
 }

@@ -2,10 +2,10 @@
 use crate::fields::{Answer, Field, NO_CALL, flag, put, put_answer, put_fields};
 use crate::given::text_of;
 use epochs::{
-    ChannelEpoch, Event, Key, Line, RevisionFault, Roles, StationEpoch, User, is_ha1, is_skipped,
-    is_user_name, read_revision,
+    ChannelEpoch, EpochTimes, Event, Globs, Grant, Key, Line, RevisionFault, Roles, StationEpoch,
+    User, is_ha1, is_skipped, is_user_name, read_revision,
 };
-use exact_time::{Many, OutOfMemory, Text};
+use exact_time::{Many, Moment, OutOfMemory, Text};
 use std::alloc::Global;
 
 fn put_station(out: &mut Text, sta: &StationEpoch) -> Result<(), OutOfMemory> {
@@ -15,12 +15,12 @@ fn put_station(out: &mut Text, sta: &StationEpoch) -> Result<(), OutOfMemory> {
             Field::Word("STA"),
             Field::Code(&sta.network),
             Field::Code(&sta.station),
-            Field::Number(sta.latitude),
-            Field::Number(sta.longitude),
-            Field::Number(sta.elevation),
+            Field::Number(sta.position.latitude),
+            Field::Number(sta.position.longitude),
+            Field::Number(sta.position.elevation),
             Field::Word(sta.site.as_str()),
-            Field::Moment(sta.start),
-            Field::Limit(sta.end),
+            Field::Moment(sta.times.start),
+            Field::Limit(sta.times.end),
         ],
     )
 }
@@ -34,19 +34,19 @@ fn put_channel(out: &mut Text, cha: &ChannelEpoch) -> Result<(), OutOfMemory> {
             Field::Code(&cha.name.station),
             Field::Code(&cha.name.location),
             Field::Code(&cha.name.channel),
-            Field::Number(cha.latitude),
-            Field::Number(cha.longitude),
-            Field::Number(cha.elevation),
-            Field::Number(cha.depth),
-            Field::Maybe(cha.azimuth),
-            Field::Maybe(cha.dip),
-            Field::Word(cha.sensor.as_str()),
-            Field::Maybe(cha.scale),
-            Field::Maybe(cha.scale_freq),
-            Field::Word(cha.scale_units.as_str()),
-            Field::Number(cha.sample_rate),
-            Field::Moment(cha.start),
-            Field::Limit(cha.end),
+            Field::Number(cha.position.latitude),
+            Field::Number(cha.position.longitude),
+            Field::Number(cha.position.elevation),
+            Field::Number(cha.sensor.depth),
+            Field::Maybe(cha.sensor.azimuth),
+            Field::Maybe(cha.sensor.dip),
+            Field::Word(cha.sensor.sensor.as_str()),
+            Field::Maybe(cha.response.scale),
+            Field::Maybe(cha.response.scale_freq),
+            Field::Word(cha.response.scale_units.as_str()),
+            Field::Number(cha.response.sample_rate),
+            Field::Moment(cha.times.start),
+            Field::Limit(cha.times.end),
         ],
     )
 }
@@ -58,17 +58,17 @@ fn put_event(out: &mut Text, evt: &Event) -> Result<(), OutOfMemory> {
             Field::Word("EVT"),
             Field::Word(evt.id.as_str()),
             Field::Moment(evt.time),
-            Field::Number(evt.latitude),
-            Field::Number(evt.longitude),
-            Field::Maybe(evt.depth),
-            Field::Word(evt.author.as_str()),
-            Field::Word(evt.catalog.as_str()),
-            Field::Word(evt.contributor.as_str()),
-            Field::Word(evt.contributor_id.as_str()),
-            Field::Word(evt.magnitude_kind.as_str()),
-            Field::Maybe(evt.magnitude),
-            Field::Word(evt.magnitude_author.as_str()),
-            Field::Word(evt.location.as_str()),
+            Field::Number(evt.hypocentre.latitude),
+            Field::Number(evt.hypocentre.longitude),
+            Field::Maybe(evt.hypocentre.depth),
+            Field::Word(evt.attribution.author.as_str()),
+            Field::Word(evt.attribution.catalog.as_str()),
+            Field::Word(evt.attribution.contributor.as_str()),
+            Field::Word(evt.attribution.contributor_id.as_str()),
+            Field::Word(evt.magnitude.kind.as_str()),
+            Field::Maybe(evt.magnitude.magnitude),
+            Field::Word(evt.magnitude.author.as_str()),
+            Field::Word(evt.magnitude.location.as_str()),
         ],
     )
 }
@@ -93,6 +93,52 @@ fn put_user(out: &mut Text, user: &User) -> Result<(), OutOfMemory> {
             Field::Word(user.name.as_str()),
             Field::Word(text_of(&user.ha1)),
             Field::Names(&roles),
+        ],
+    )
+}
+
+// A first field, the patterns of channels, and times.
+fn put_channels<'a>(
+    out: &mut Text,
+    first: &'a str,
+    channels: &'a Globs,
+    times: EpochTimes,
+) -> Result<(), OutOfMemory> {
+    put_fields(
+        out,
+        &[
+            Field::Word(first),
+            Field::Glob(&channels.network),
+            Field::Glob(&channels.station),
+            Field::Glob(&channels.location),
+            Field::Glob(&channels.channel),
+            Field::Moment(times.start),
+            Field::Limit(times.end),
+        ],
+    )
+}
+
+fn put_grant(out: &mut Text, grant: &Grant) -> Result<(), OutOfMemory> {
+    out.push("GRT|")?;
+    put_channels(out, grant.user.as_str(), &grant.channels, grant.times)
+}
+
+// A first field, the patterns of channels, and a start.
+fn put_channels_from<'a>(
+    out: &mut Text,
+    first: &'a str,
+    channels: &'a Globs,
+    start: Moment,
+) -> Result<(), OutOfMemory> {
+    put_fields(
+        out,
+        &[
+            Field::Word(first),
+            Field::Glob(&channels.network),
+            Field::Glob(&channels.station),
+            Field::Glob(&channels.location),
+            Field::Glob(&channels.channel),
+            Field::Moment(start),
         ],
     )
 }
@@ -133,47 +179,21 @@ fn put_key(out: &mut Text, key: &Key) -> Result<(), OutOfMemory> {
             ],
         ),
         Key::Evt { id } => put_fields(out, &[Field::Word("EVT"), Field::Word(id.as_str())]),
-        Key::Rst {
-            network,
-            station,
-            location,
-            channel,
-            start,
-        } => put_fields(
-            out,
-            &[
-                Field::Word("RST"),
-                Field::Glob(network),
-                Field::Glob(station),
-                Field::Glob(location),
-                Field::Glob(channel),
-                Field::Moment(*start),
-            ],
-        ),
+        Key::Rst { channels, start } => put_channels_from(out, "RST", channels, *start),
         Key::Grt {
             user,
-            network,
-            station,
-            location,
-            channel,
+            channels,
             start,
-        } => put_fields(
-            out,
-            &[
-                Field::Word("GRT"),
-                Field::Word(user.as_str()),
-                Field::Glob(network),
-                Field::Glob(station),
-                Field::Glob(location),
-                Field::Glob(channel),
-                Field::Moment(*start),
-            ],
-        ),
+        } => {
+            out.push("GRT|")?;
+            put_channels_from(out, user.as_str(), channels, *start)
+        }
+        Key::Wdr { channels, start } => put_channels_from(out, "WDR", channels, *start),
         Key::Usr { name } => put_fields(out, &[Field::Word("USR"), Field::Word(name.as_str())]),
     }
 }
 
-fn put_line(out: &mut Text, line: &Line) -> Result<(), OutOfMemory> {
+fn put_line(alloc: Global, out: &mut Text, line: &Line) -> Result<(), OutOfMemory> {
     match line {
         Line::Net(net) => put_fields(
             out,
@@ -181,46 +201,28 @@ fn put_line(out: &mut Text, line: &Line) -> Result<(), OutOfMemory> {
                 Field::Word("NET"),
                 Field::Code(&net.network),
                 Field::Word(net.description.as_str()),
-                Field::Moment(net.start),
-                Field::Limit(net.end),
+                Field::Moment(net.times.start),
+                Field::Limit(net.times.end),
             ],
         ),
         Line::Sta(sta) => put_station(out, sta),
         Line::Cha(cha) => put_channel(out, cha),
         Line::Evt(evt) => put_event(out, evt),
-        Line::Rst(rst) => put_fields(
-            out,
-            &[
-                Field::Word("RST"),
-                Field::Glob(&rst.network),
-                Field::Glob(&rst.station),
-                Field::Glob(&rst.location),
-                Field::Glob(&rst.channel),
-                Field::Moment(rst.start),
-                Field::Limit(rst.end),
-            ],
-        ),
-        Line::Grt(grt) => put_fields(
-            out,
-            &[
-                Field::Word("GRT"),
-                Field::Word(grt.user.as_str()),
-                Field::Glob(&grt.network),
-                Field::Glob(&grt.station),
-                Field::Glob(&grt.location),
-                Field::Glob(&grt.channel),
-                Field::Moment(grt.start),
-                Field::Limit(grt.end),
-            ],
-        ),
+        Line::Rst(rst) => put_channels(out, "RST", &rst.channels, rst.times),
+        Line::Grt(grant) => put_grant(out, grant),
+        Line::Wdr(wdr) => {
+            put_channels(out, "WDR", &wdr.channels, wdr.times)?;
+            out.push("|")?;
+            put(alloc, out, wdr.upto)
+        }
         Line::Usr(user) => put_user(out, user),
         Line::Del(deletion) => put_key(out, &deletion.key),
     }
 }
 
-fn put_lines(out: &mut Text, lines: &[Line]) -> Result<(), OutOfMemory> {
+fn put_lines(alloc: Global, out: &mut Text, lines: &[Line]) -> Result<(), OutOfMemory> {
     'lines: for line in lines {
-        put_line(out, line)?;
+        put_line(alloc, out, line)?;
         out.push(";")?;
     }
     Ok(())
@@ -232,7 +234,7 @@ fn put_revision(
     read: &Result<Many<Line>, RevisionFault>,
 ) -> Result<(), OutOfMemory> {
     match read {
-        Ok(lines) => put_lines(out, lines.as_slice()),
+        Ok(lines) => put_lines(alloc, out, lines.as_slice()),
         Err(fault) => put(alloc, out, fault),
     }
 }

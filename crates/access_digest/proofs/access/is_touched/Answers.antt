@@ -1,15 +1,7 @@
-use Rattle.epoch_catalog.specs.declared.families.Family.TheVariants as family
-use Rattle.epoch_catalog.specs.Families.{is_in}
-use Rattle.access_digest.specs.Access.{touches}
-use Rattle.access_digest.proofs.WideLines.{any_placed, any_written, touching_place}
+use Rattle.std.proofs.Common.{sym, ◌∙◌}
+use Rattle.access_digest.proofs.Isolation.{without_restrictions}
 use Rattle.access_digest.proofs.access.is_touched.Goals as goal
 
-pub returns-then-some_touches : goal.returns-then-some_touches
-returns-then-some_touches c =
-    let row = c.args.row.now in
-    any_written (is_in (family.RestrictionsOn row.header.name.network)) (λ e. touches e row) _ c.args.catalog.now _ c.family.ensures c.some_touches.ensures c.if-some_touches.true
-
-pub returns-else-some_touches : goal.returns-else-some_touches
-returns-else-some_touches c =
-    let row = c.args.row.now in
-    any_placed _ _ (λ e. touches e row) _ _ _ _ _ _ c.lines.ensures.lines c.family.ensures c.wide.ensures (λ line h. touching_place row line h) c.some_touches.ensures c.touches_at.ensures c.if-some_touches.false
+pub returns-else-has_restrictions : goal.returns-else-has_restrictions
+returns-else-has_restrictions c =
+    c.if-has_restrictions.false ∙ sym (without_restrictions c.args.catalog.now c.args.row.now (sym c.has_restrictions.ensures ∙ c.if-has_restrictions.false))

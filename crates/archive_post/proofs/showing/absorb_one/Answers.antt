@@ -1,6 +1,6 @@
 use Rattle.std.proofs.Common.{◌∙◌, sym, ap}
 use Rattle.std.specs.Option.{option_copied}
-use Rattle.archive_state.proofs.Absorbs.{next_absorbs}
+use Rattle.archive_state.proofs.NextEntry.{next_absorbs}
 use Rattle.archive_post.specs.Waiting.{waits}
 use Rattle.archive_post.proofs.showing.absorb_one.Goals as goal
 

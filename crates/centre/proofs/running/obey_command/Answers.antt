@@ -50,3 +50,10 @@ returns-in-Some-Fetch g c = record {
       with_ports g.D.Disk.view c.args.secret.now _ (g.S.Stream.view c.args.source.now) (g.K.Stream.view c.args.sink.now) c.args.disk (g.C.Clock.given c.args.clock.now) _ _ _ _
       (ports_as g.P.Port.view (λ worker. worker.port) c.ports_of-ports-in-Some-Fetch.result.items c.args.workers.items c.ports_of-ports-in-Some-Fetch.ensures) (search rules);
 }
+
+pub returns-in-Some-Coverage : goal.returns-in-Some-Coverage
+returns-in-Some-Coverage g c = record {
+  row =
+      with_ports g.D.Disk.view c.args.secret.now _ (g.S.Stream.view c.args.source.now) (g.K.Stream.view c.args.sink.now) c.args.disk (g.C.Clock.given c.args.clock.now) _ _ _ _
+      (ports_as g.P.Port.view (λ worker. worker.port) c.ports_of-ports-in-Some-Coverage.result.items c.args.workers.items c.ports_of-ports-in-Some-Coverage.ensures) (search rules);
+}

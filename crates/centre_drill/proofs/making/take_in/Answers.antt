@@ -1,4 +1,4 @@
-use Rattle.archive_state.proofs.Absorbs.{next_absorbs}
+use Rattle.archive_state.proofs.NextEntry.{next_absorbs}
 use Rattle.centre_drill.proofs.making.take_in.Goals as goal
 
 pub absorb-requires : goal.absorb-requires

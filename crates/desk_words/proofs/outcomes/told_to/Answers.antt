@@ -7,8 +7,8 @@ use Rattle.availability.specs.Spans.{spans_of}
 use Rattle.availability.specs.Texts.{answer_of as avail_answer_of}
 use Rattle.station_text.specs.Answers.{text_answer_of as station_answer_of}
 use Rattle.event_text.specs.Texts.{text_answer_of as event_answer_of}
-use Rattle.access_digest.specs.Access.{is_touched, may_have}
-use Rattle.archive_state.specs.History.{held_of}
+use Rattle.access_digest.specs.Access.{is_seen, is_touched}
+use Rattle.archive_state.specs.History.{arrived_of}
 use Rattle.desk_words.specs.Outcomes.{outcome_from, data_told, text_told}
 use Rattle.desk_words.proofs.Told.{waves_told, spans_told, stations_told, events_told}
 use Rattle.desk_words.proofs.outcomes.told_to.Goals as goal
@@ -20,7 +20,7 @@ returns-in-Waves c =
     let user = option_map (λ u. u.now.name) c.args.user in
     let live = c.catalog.result.now in
     let rows = c.shelf.result.now.index.rows.items in
-    let told = c.told_data.ensures (data_answer_of (may_have live user) q most rows) c.answer.ensures.body c.answer.ensures.refused in
+    let told = c.told_data.ensures (data_answer_of (is_seen live user) q most rows) c.answer.ensures.body c.answer.ensures.refused in
     rw c.in-Waves.is (subst (λ (a : Result (List ℕ) DataRefusal). IfOk c.told_data.result (λ o. o ≡ outcome_from data_told a)) (waves_told c.args.state.now live rows user c.catalog.ensures c.shelf.ensures q most) told)
 
 pub returns-in-Spans : goal.returns-in-Spans
@@ -30,7 +30,7 @@ returns-in-Spans c =
     let user = option_map (λ u. u.now.name) c.args.user in
     let live = c.catalog.result.now in
     let rows = c.shelf-in-Spans.result.now.index.rows.items in
-    let told = c.told_text.ensures (avail_answer_of Spans q most (spans_of (may_have live user) (is_touched live) q rows)) c.spans_body.ensures.text c.spans_body.ensures.refused in
+    let told = c.told_text.ensures (avail_answer_of Spans q most (spans_of (is_seen live user) (is_touched live) q rows)) c.spans_body.ensures.text c.spans_body.ensures.refused in
     rw c.in-Spans.is (subst (λ (a : Result (List ℕ) TextRefusal). IfOk c.told_text.result (λ o. o ≡ outcome_from text_told a)) (spans_told c.args.state.now live rows user c.catalog.ensures c.shelf-in-Spans.ensures Spans q most) told)
 
 pub returns-in-Extent : goal.returns-in-Extent
@@ -40,7 +40,7 @@ returns-in-Extent c =
     let user = option_map (λ u. u.now.name) c.args.user in
     let live = c.catalog.result.now in
     let rows = c.shelf-in-Extent.result.now.index.rows.items in
-    let told = c.told_text-in-Extent.ensures (avail_answer_of Extent q most (spans_of (may_have live user) (is_touched live) q rows)) c.extent_body.ensures.text c.extent_body.ensures.refused in
+    let told = c.told_text-in-Extent.ensures (avail_answer_of Extent q most (spans_of (is_seen live user) (is_touched live) q rows)) c.extent_body.ensures.text c.extent_body.ensures.refused in
     rw c.in-Extent.is (subst (λ (a : Result (List ℕ) TextRefusal). IfOk c.told_text-in-Extent.result (λ o. o ≡ outcome_from text_told a)) (spans_told c.args.state.now live rows user c.catalog.ensures c.shelf-in-Extent.ensures Extent q most) told)
 
 pub returns-in-Station : goal.returns-in-Station
@@ -50,7 +50,7 @@ returns-in-Station c =
     let user = option_map (λ u. u.now.name) c.args.user in
     let live = c.catalog-in-Station.result.now in
     let told = c.told_text-in-Station.ensures (station_answer_of q most live) c.answer-in-Station.ensures.text c.answer-in-Station.ensures.refused in
-    rw c.in-Station.is (subst (λ (a : Result (List ℕ) TextRefusal). IfOk c.told_text-in-Station.result (λ o. o ≡ outcome_from text_told a)) (stations_told c.args.state.now live (held_of c.args.state.now) user c.catalog-in-Station.ensures refl q most) told)
+    rw c.in-Station.is (subst (λ (a : Result (List ℕ) TextRefusal). IfOk c.told_text-in-Station.result (λ o. o ≡ outcome_from text_told a)) (stations_told c.args.state.now live (arrived_of c.args.state.now) user c.catalog-in-Station.ensures refl q most) told)
 
 pub returns-in-Event : goal.returns-in-Event
 returns-in-Event c =
@@ -59,4 +59,4 @@ returns-in-Event c =
     let user = option_map (λ u. u.now.name) c.args.user in
     let live = c.catalog-in-Event.result.now in
     let told = c.told_text-in-Event.ensures (event_answer_of q most live) c.answer-in-Event.ensures.text c.answer-in-Event.ensures.refused in
-    rw c.in-Event.is (subst (λ (a : Result (List ℕ) TextRefusal). IfOk c.told_text-in-Event.result (λ o. o ≡ outcome_from text_told a)) (events_told c.args.state.now live (held_of c.args.state.now) user c.catalog-in-Event.ensures refl q most) told)
+    rw c.in-Event.is (subst (λ (a : Result (List ℕ) TextRefusal). IfOk c.told_text-in-Event.result (λ o. o ≡ outcome_from text_told a)) (events_told c.args.state.now live (arrived_of c.args.state.now) user c.catalog-in-Event.ensures refl q most) told)

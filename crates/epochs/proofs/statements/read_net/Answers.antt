@@ -18,30 +18,30 @@ returns-in_err-description-clause-refused c =
     (code c.in_ok-network.network ∷ []) c.in_err-description.field-0.0 (c.in_ok-network.ensures.value, tt) c.in_err-description.ensures.refused in
     rw (p.1, p.2) (refused_behind (Says Net) fields c.in_err-description.field-0.0 count bad)
 
-pub returns-in_err-start-clause-refused : goal.returns-in_err-start-clause-refused
-returns-in_err-start-clause-refused c =
+pub returns-in_err-times-clause-refused : goal.returns-in_err-times-clause-refused
+returns-in_err-times-clause-refused c =
     let fields = c.args.fields.now in
     let count : length c.args.fields.now ≡ 4 = omega (arith, c.in-len4.len_at_least, c.in-len4.len_below) in
-    let p = err_from_is_err_and c.from_residual-in_err-start.result c.from_residual-in_err-start.ensures.1 in
+    let p = err_from_is_err_and c.from_residual-in_err-times.result c.from_residual-in_err-times.ensures.1 in
     let bad = group_among (CodeOf Network ∷ Words ∷ []) (Time ∷ End ∷ []) [] 2 (some_from fields 0 2) (some_from fields 2 2) (some_from fields 4 0)
-    (code c.in_ok-network.network ∷ words c.in_ok-description.description ∷ []) c.in_err-start.field-0.0 (c.in_ok-network.ensures.value, (c.in_ok-description.ensures.value, tt)) c.in_err-start.ensures.refused in
-    rw (p.1, p.2) (refused_behind (Says Net) fields c.in_err-start.field-0.0 count bad)
+    (code c.in_ok-network.network ∷ words c.in_ok-description.description ∷ []) c.in_err-times.field-0.0 (c.in_ok-network.ensures.value, (c.in_ok-description.ensures.value, tt)) c.in_err-times.ensures.refused in
+    rw (p.1, p.2) (refused_behind (Says Net) fields c.in_err-times.field-0.0 count bad)
 
-pub returns-then-not-is_after-clause-refused : goal.returns-then-not-is_after-clause-refused
-returns-then-not-is_after-clause-refused c =
+pub returns-then-not-is_in_order-clause-refused : goal.returns-then-not-is_in_order-clause-refused
+returns-then-not-is_in_order-clause-refused c =
     let fields = c.args.fields.now in
     let count : length c.args.fields.now ≡ 4 = omega (arith, c.in-len4.len_at_least, c.in-len4.len_below) in
     backward_behind (Says Net) fields
-    (code c.in_ok-network.network ∷ words c.in_ok-description.description ∷ time_value c.in_ok-start.field-0.start ∷ end_value c.in_ok-start.field-0.end ∷ [])
-    count (c.in_ok-network.ensures.value, (c.in_ok-description.ensures.value, (c.in_ok-start.ensures.value.0, (c.in_ok-start.ensures.value.1.0, tt)))) (search rules)
+    (code c.in_ok-network.network ∷ words c.in_ok-description.description ∷ time_value c.in_ok-times.times.start ∷ end_value c.in_ok-times.times.end ∷ [])
+    count (c.in_ok-network.ensures.value, (c.in_ok-description.ensures.value, (c.in_ok-times.ensures.value.0, (c.in_ok-times.ensures.value.1.0, tt)))) (search rules)
 
 pub invariant_of-result : goal.invariant_of-result
 invariant_of-result c =
     let fields = c.args.fields.now in
     record {
       spellable = spellable_behind (Says Net) fields
-          (code c.in_ok-network.network ∷ words c.in_ok-description.description ∷ time_value c.in_ok-start.field-0.start ∷ end_value c.in_ok-start.field-0.end ∷ [])
-          (c.in_ok-network.ensures.value, (c.in_ok-description.ensures.value, (c.in_ok-start.ensures.value.0, (c.in_ok-start.ensures.value.1.0, tt)))) (c.is_after.ensures.0 c.if-not-is_after.false);
+          (code c.in_ok-network.network ∷ words c.in_ok-description.description ∷ time_value c.in_ok-times.times.start ∷ end_value c.in_ok-times.times.end ∷ [])
+          (c.in_ok-network.ensures.value, (c.in_ok-description.ensures.value, (c.in_ok-times.ensures.value.0, (c.in_ok-times.ensures.value.1.0, tt)))) (c.is_in_order.ensures.0 c.if-not-is_in_order.false);
     }
 
 pub returns-clause-value : goal.returns-clause-value
@@ -49,5 +49,5 @@ returns-clause-value c =
     let fields = c.args.fields.now in
     let count : length c.args.fields.now ≡ 4 = omega (arith, c.in-len4.len_at_least, c.in-len4.len_below) in
     spelled_behind (Says Net) fields
-    (code c.in_ok-network.network ∷ words c.in_ok-description.description ∷ time_value c.in_ok-start.field-0.start ∷ end_value c.in_ok-start.field-0.end ∷ [])
-    count (c.in_ok-network.ensures.value, (c.in_ok-description.ensures.value, (c.in_ok-start.ensures.value.0, (c.in_ok-start.ensures.value.1.0, tt)))) (c.is_after.ensures.0 c.if-not-is_after.false)
+    (code c.in_ok-network.network ∷ words c.in_ok-description.description ∷ time_value c.in_ok-times.times.start ∷ end_value c.in_ok-times.times.end ∷ [])
+    count (c.in_ok-network.ensures.value, (c.in_ok-description.ensures.value, (c.in_ok-times.ensures.value.0, (c.in_ok-times.ensures.value.1.0, tt)))) (c.is_in_order.ensures.0 c.if-not-is_in_order.false)

@@ -19,14 +19,14 @@ returns-in_err-station-clause-refused c =
     (code c.in_ok-network.network ∷ []) c.in_err-station.field-0.0 (c.in_ok-network.ensures.value, tt) c.in_err-station.ensures.refused in
     rw (p.1, p.2) (refused_behind (Says Sta) fields c.in_err-station.field-0.0 count bad)
 
-pub returns-in_err-latitude-clause-refused : goal.returns-in_err-latitude-clause-refused
-returns-in_err-latitude-clause-refused c =
+pub returns-in_err-position-clause-refused : goal.returns-in_err-position-clause-refused
+returns-in_err-position-clause-refused c =
     let fields = c.args.fields.now in
     let count : length c.args.fields.now ≡ 8 = omega (arith, c.in-len8.len_at_least, c.in-len8.len_below) in
-    let p = err_from_is_err_and c.from_residual-in_err-latitude.result c.from_residual-in_err-latitude.ensures.1 in
+    let p = err_from_is_err_and c.from_residual-in_err-position.result c.from_residual-in_err-position.ensures.1 in
     let bad = group_among (CodeOf Network ∷ CodeOf Station ∷ []) (Required Latitude ∷ Required Longitude ∷ Required Measure ∷ []) (Words ∷ Time ∷ End ∷ []) 2 (some_from fields 0 2) (some_from fields 2 3) (some_from fields 5 3)
-    (code c.in_ok-network.network ∷ code c.in_ok-station.station ∷ []) c.in_err-latitude.field-0.0 (c.in_ok-network.ensures.value, (c.in_ok-station.ensures.value, tt)) c.in_err-latitude.ensures.refused in
-    rw (p.1, p.2) (refused_behind (Says Sta) fields c.in_err-latitude.field-0.0 count bad)
+    (code c.in_ok-network.network ∷ code c.in_ok-station.station ∷ []) c.in_err-position.field-0.0 (c.in_ok-network.ensures.value, (c.in_ok-station.ensures.value, tt)) c.in_err-position.ensures.refused in
+    rw (p.1, p.2) (refused_behind (Says Sta) fields c.in_err-position.field-0.0 count bad)
 
 pub returns-in_err-site-clause-refused : goal.returns-in_err-site-clause-refused
 returns-in_err-site-clause-refused c =
@@ -34,33 +34,33 @@ returns-in_err-site-clause-refused c =
     let count : length c.args.fields.now ≡ 8 = omega (arith, c.in-len8.len_at_least, c.in-len8.len_below) in
     let p = err_from_is_err_and c.from_residual-in_err-site.result c.from_residual-in_err-site.ensures.1 in
     let bad = field_among (CodeOf Network ∷ CodeOf Station ∷ Required Latitude ∷ Required Longitude ∷ Required Measure ∷ []) Words (Time ∷ End ∷ []) 2 (some_from fields 0 5) (text_at fields 5) (some_from fields 6 2)
-    (code c.in_ok-network.network ∷ code c.in_ok-station.station ∷ number_value c.in_ok-latitude.field-0.latitude ∷ number_value c.in_ok-latitude.field-0.longitude ∷ number_value c.in_ok-latitude.field-0.elevation ∷ []) c.in_err-site.field-0.0 (c.in_ok-network.ensures.value, (c.in_ok-station.ensures.value, (c.in_ok-latitude.ensures.value.0, (c.in_ok-latitude.ensures.value.1.0, (c.in_ok-latitude.ensures.value.1.1.0, tt))))) c.in_err-site.ensures.refused in
+    (code c.in_ok-network.network ∷ code c.in_ok-station.station ∷ number_value c.in_ok-position.position.latitude ∷ number_value c.in_ok-position.position.longitude ∷ number_value c.in_ok-position.position.elevation ∷ []) c.in_err-site.field-0.0 (c.in_ok-network.ensures.value, (c.in_ok-station.ensures.value, (c.in_ok-position.ensures.value.0, (c.in_ok-position.ensures.value.1.0, (c.in_ok-position.ensures.value.1.1.0, tt))))) c.in_err-site.ensures.refused in
     rw (p.1, p.2) (refused_behind (Says Sta) fields c.in_err-site.field-0.0 count bad)
 
-pub returns-in_err-start-clause-refused : goal.returns-in_err-start-clause-refused
-returns-in_err-start-clause-refused c =
+pub returns-in_err-times-clause-refused : goal.returns-in_err-times-clause-refused
+returns-in_err-times-clause-refused c =
     let fields = c.args.fields.now in
     let count : length c.args.fields.now ≡ 8 = omega (arith, c.in-len8.len_at_least, c.in-len8.len_below) in
-    let p = err_from_is_err_and c.from_residual-in_err-start.result c.from_residual-in_err-start.ensures.1 in
+    let p = err_from_is_err_and c.from_residual-in_err-times.result c.from_residual-in_err-times.ensures.1 in
     let bad = group_among (CodeOf Network ∷ CodeOf Station ∷ Required Latitude ∷ Required Longitude ∷ Required Measure ∷ Words ∷ []) (Time ∷ End ∷ []) [] 2 (some_from fields 0 6) (some_from fields 6 2) (some_from fields 8 0)
-    (code c.in_ok-network.network ∷ code c.in_ok-station.station ∷ number_value c.in_ok-latitude.field-0.latitude ∷ number_value c.in_ok-latitude.field-0.longitude ∷ number_value c.in_ok-latitude.field-0.elevation ∷ words c.in_ok-site.site ∷ []) c.in_err-start.field-0.0 (c.in_ok-network.ensures.value, (c.in_ok-station.ensures.value, (c.in_ok-latitude.ensures.value.0, (c.in_ok-latitude.ensures.value.1.0, (c.in_ok-latitude.ensures.value.1.1.0, (c.in_ok-site.ensures.value, tt)))))) c.in_err-start.ensures.refused in
-    rw (p.1, p.2) (refused_behind (Says Sta) fields c.in_err-start.field-0.0 count bad)
+    (code c.in_ok-network.network ∷ code c.in_ok-station.station ∷ number_value c.in_ok-position.position.latitude ∷ number_value c.in_ok-position.position.longitude ∷ number_value c.in_ok-position.position.elevation ∷ words c.in_ok-site.site ∷ []) c.in_err-times.field-0.0 (c.in_ok-network.ensures.value, (c.in_ok-station.ensures.value, (c.in_ok-position.ensures.value.0, (c.in_ok-position.ensures.value.1.0, (c.in_ok-position.ensures.value.1.1.0, (c.in_ok-site.ensures.value, tt)))))) c.in_err-times.ensures.refused in
+    rw (p.1, p.2) (refused_behind (Says Sta) fields c.in_err-times.field-0.0 count bad)
 
-pub returns-then-not-is_after-clause-refused : goal.returns-then-not-is_after-clause-refused
-returns-then-not-is_after-clause-refused c =
+pub returns-then-not-is_in_order-clause-refused : goal.returns-then-not-is_in_order-clause-refused
+returns-then-not-is_in_order-clause-refused c =
     let fields = c.args.fields.now in
     let count : length c.args.fields.now ≡ 8 = omega (arith, c.in-len8.len_at_least, c.in-len8.len_below) in
     backward_behind (Says Sta) fields
-    (code c.in_ok-network.network ∷ code c.in_ok-station.station ∷ number_value c.in_ok-latitude.field-0.latitude ∷ number_value c.in_ok-latitude.field-0.longitude ∷ number_value c.in_ok-latitude.field-0.elevation ∷ words c.in_ok-site.site ∷ time_value c.in_ok-start.field-0.start ∷ end_value c.in_ok-start.field-0.end ∷ [])
-    count (c.in_ok-network.ensures.value, (c.in_ok-station.ensures.value, (c.in_ok-latitude.ensures.value.0, (c.in_ok-latitude.ensures.value.1.0, (c.in_ok-latitude.ensures.value.1.1.0, (c.in_ok-site.ensures.value, (c.in_ok-start.ensures.value.0, (c.in_ok-start.ensures.value.1.0, tt)))))))) (search rules)
+    (code c.in_ok-network.network ∷ code c.in_ok-station.station ∷ number_value c.in_ok-position.position.latitude ∷ number_value c.in_ok-position.position.longitude ∷ number_value c.in_ok-position.position.elevation ∷ words c.in_ok-site.site ∷ time_value c.in_ok-times.times.start ∷ end_value c.in_ok-times.times.end ∷ [])
+    count (c.in_ok-network.ensures.value, (c.in_ok-station.ensures.value, (c.in_ok-position.ensures.value.0, (c.in_ok-position.ensures.value.1.0, (c.in_ok-position.ensures.value.1.1.0, (c.in_ok-site.ensures.value, (c.in_ok-times.ensures.value.0, (c.in_ok-times.ensures.value.1.0, tt)))))))) (search rules)
 
 pub invariant_of-result : goal.invariant_of-result
 invariant_of-result c =
     let fields = c.args.fields.now in
     record {
       spellable = spellable_behind (Says Sta) fields
-          (code c.in_ok-network.network ∷ code c.in_ok-station.station ∷ number_value c.in_ok-latitude.field-0.latitude ∷ number_value c.in_ok-latitude.field-0.longitude ∷ number_value c.in_ok-latitude.field-0.elevation ∷ words c.in_ok-site.site ∷ time_value c.in_ok-start.field-0.start ∷ end_value c.in_ok-start.field-0.end ∷ [])
-          (c.in_ok-network.ensures.value, (c.in_ok-station.ensures.value, (c.in_ok-latitude.ensures.value.0, (c.in_ok-latitude.ensures.value.1.0, (c.in_ok-latitude.ensures.value.1.1.0, (c.in_ok-site.ensures.value, (c.in_ok-start.ensures.value.0, (c.in_ok-start.ensures.value.1.0, tt)))))))) (c.is_after.ensures.0 c.if-not-is_after.false);
+          (code c.in_ok-network.network ∷ code c.in_ok-station.station ∷ number_value c.in_ok-position.position.latitude ∷ number_value c.in_ok-position.position.longitude ∷ number_value c.in_ok-position.position.elevation ∷ words c.in_ok-site.site ∷ time_value c.in_ok-times.times.start ∷ end_value c.in_ok-times.times.end ∷ [])
+          (c.in_ok-network.ensures.value, (c.in_ok-station.ensures.value, (c.in_ok-position.ensures.value.0, (c.in_ok-position.ensures.value.1.0, (c.in_ok-position.ensures.value.1.1.0, (c.in_ok-site.ensures.value, (c.in_ok-times.ensures.value.0, (c.in_ok-times.ensures.value.1.0, tt)))))))) (c.is_in_order.ensures.0 c.if-not-is_in_order.false);
     }
 
 pub returns-clause-value : goal.returns-clause-value
@@ -68,5 +68,5 @@ returns-clause-value c =
     let fields = c.args.fields.now in
     let count : length c.args.fields.now ≡ 8 = omega (arith, c.in-len8.len_at_least, c.in-len8.len_below) in
     spelled_behind (Says Sta) fields
-    (code c.in_ok-network.network ∷ code c.in_ok-station.station ∷ number_value c.in_ok-latitude.field-0.latitude ∷ number_value c.in_ok-latitude.field-0.longitude ∷ number_value c.in_ok-latitude.field-0.elevation ∷ words c.in_ok-site.site ∷ time_value c.in_ok-start.field-0.start ∷ end_value c.in_ok-start.field-0.end ∷ [])
-    count (c.in_ok-network.ensures.value, (c.in_ok-station.ensures.value, (c.in_ok-latitude.ensures.value.0, (c.in_ok-latitude.ensures.value.1.0, (c.in_ok-latitude.ensures.value.1.1.0, (c.in_ok-site.ensures.value, (c.in_ok-start.ensures.value.0, (c.in_ok-start.ensures.value.1.0, tt)))))))) (c.is_after.ensures.0 c.if-not-is_after.false)
+    (code c.in_ok-network.network ∷ code c.in_ok-station.station ∷ number_value c.in_ok-position.position.latitude ∷ number_value c.in_ok-position.position.longitude ∷ number_value c.in_ok-position.position.elevation ∷ words c.in_ok-site.site ∷ time_value c.in_ok-times.times.start ∷ end_value c.in_ok-times.times.end ∷ [])
+    count (c.in_ok-network.ensures.value, (c.in_ok-station.ensures.value, (c.in_ok-position.ensures.value.0, (c.in_ok-position.ensures.value.1.0, (c.in_ok-position.ensures.value.1.1.0, (c.in_ok-site.ensures.value, (c.in_ok-times.ensures.value.0, (c.in_ok-times.ensures.value.1.0, tt)))))))) (c.is_in_order.ensures.0 c.if-not-is_in_order.false)

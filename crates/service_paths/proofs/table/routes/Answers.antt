@@ -16,5 +16,5 @@ returns c = λ i.
     ∷ c.version-3.ensures i
     ∷ c.version-4.ensures i
     ∷ c.feed.ensures i
-    ∷ c.feed-2.ensures i
+    ∷ c.feed-2.ensures i ∷ c.signed-4.ensures i
     ∷ []

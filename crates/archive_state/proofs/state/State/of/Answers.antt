@@ -4,7 +4,7 @@ use Rattle.std.proofs.lemmas.List.{take_more}
 use Rattle.std.proofs.lemmas.Option.{slice_get-get_or}
 use Rattle.archive_entry.specs.declared.entry.Entry.{Entry}
 use Rattle.archive_state.specs.Lawful.{IsLawful, is_next}
-use Rattle.archive_state.proofs.Absorbs.{next_absorbs}
+use Rattle.archive_state.proofs.NextEntry.{next_absorbs}
 use Rattle.archive_state.proofs.Growth.{lawful_by_each, lawful_push}
 use Rattle.archive_state.proofs.state.State.of.Goals as goal
 

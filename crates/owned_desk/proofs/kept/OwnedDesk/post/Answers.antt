@@ -24,12 +24,12 @@ returns-clause-steps g c =
     let p = c.args.posted.now in
     let m = c.args.moment in
     let s = setting c.args.secret.now c.args.limits.now in
-    let row = subst (λ (l : List Entry). Posts self.intake new l p m s r) c.entries.ensures told.row in
-    let calls = subst (λ (l : List Entry). (e : Entry) → IsTheOne (posted_entry l p m s) e → Commits view self.intake.archive new.archive l e (IsErrOf r Stopped)) c.entries.ensures told.disk in
+    let row = subst (λ (l : List Entry). Posts self.intake new l p m s r) c.entries.ensures.entries told.row in
+    let calls = subst (λ (l : List Entry). (e : Entry) → IsTheOne (posted_entry l p m s) e → Commits view self.intake.archive new.archive l e (IsErrOf r Stopped)) c.entries.ensures.entries told.disk in
     let same : c.match-told.self.intake ≡ new = search rules in
     subst (λ (x : Intake g.row.D.Denot). GoesBy (view self.intake.archive.disk) (view x.archive.disk) (held self.state self.state self.intake.archive.hand) (held (committed self.state x.waiting) self.state x.archive.hand) (post_events r self.intake.archive.hand (posted_entry self.state p m s))) (sym same)
     (post_goes view g.met.D.Disk.honest self.intake new self.state none before.hand (left_shown (view self.intake.archive.disk) self.state self.state self.intake.waiting self.intake.archive.hand none refl before.held) self.stands.lawful
-    p m s r (subst (λ (l : List Entry). waits l new.waiting ≡ true) c.entries.ensures told.stands.waits) row calls)
+    p m s r (subst (λ (l : List Entry). waits l new.waiting ≡ true) c.entries.ensures.entries told.stands.waits) row calls)
 
 pub returns-clause-left : goal.returns-clause-left
 returns-clause-left g c =

@@ -13,4 +13,4 @@ pub returns-clause-row : goal.returns-clause-row
 returns-clause-row g c =
     let d = c.args.self.now in
     told_ask (stand_over g.D.Disk.view d.intake d.state (counts d.stops d.caught d.made)) c.args.question.now (setting c.args.secret.now c.args.limits.now) _
-    (λ i. record { front = length (c.entries.ensures i); outcome = c.in_ok-told.ensures i })
+    (λ i. record { front = length (c.entries.ensures.entries i); outcome = c.in_ok-told.ensures i })

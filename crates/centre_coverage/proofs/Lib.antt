@@ -1,0 +1,3 @@
+pub mod Decide
+pub mod OneReport
+pub mod Rows

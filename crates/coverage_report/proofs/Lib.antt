@@ -1,0 +1,10 @@
+pub mod Counts
+pub mod Dates
+pub mod Ends
+pub mod Examples
+pub mod Left
+pub mod Placed
+pub mod Starts
+pub mod Stretched
+pub mod Totals
+pub mod Words

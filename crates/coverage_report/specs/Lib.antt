@@ -1,0 +1,9 @@
+pub mod Answers
+pub mod Covered
+pub mod Days
+pub mod Ends
+pub mod Lines
+pub mod Printable
+pub mod Stretches
+pub mod Sweep
+pub mod Texts

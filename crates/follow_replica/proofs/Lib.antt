@@ -1,0 +1,4 @@
+pub mod AddSteps
+pub mod Gaps
+pub mod Lawful
+pub mod TakeRows
