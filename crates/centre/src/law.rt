@@ -19,8 +19,9 @@ pub fn one_answer_at_most()
         → IsAnswer command given a → IsAnswer command given b → a ≡ b }
 {}
 
-/// And there is one: each command has an answer to each input of bytes, and by the law above no other; of `talk` and `serve`
-/// where the file opens or has a fault.
+/// And there is one: each command has an answer to each input of bytes, and by the law above no other; of `talk`, `serve` and
+/// `coverage` where the file opens or has a fault, if the last has days to ask for, and of `fetch` where what it heard for the
+/// window that it asks for leads to an end.
 pub fn some_answer()
     ensures { (command : Option Command) (given : Given) → AreOctets given.input → HasOpening command given
         → (answer : Result (List ℕ) Refusal) × IsAnswer command given answer }
