@@ -2,7 +2,7 @@
 use crate::disks::{self, Drives};
 use crate::histories::{self, Held};
 use crate::names::{Names, told};
-use crate::{archives, entries, journals};
+use crate::{archives, entries, journals, replicas};
 use archive_journal::Journal;
 use case_lines::{Step, escaped};
 use disk_model::FuseDisk;
@@ -45,6 +45,7 @@ impl Bench {
             "entry" => entries::given(alloc, words),
             "history" => histories::given(alloc, &mut self.held, words),
             "archive" => archives::given(alloc, &mut self.drives, words),
+            "replica" => replicas::given(alloc, &mut self.drives, words),
             _ => told(alloc, "no such call"),
         }
     }

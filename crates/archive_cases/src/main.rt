@@ -1,4 +1,4 @@
-//! Cases of what the disk keeps: disks in memory, the journal's bytes, the spelling of entries, verdicts, archives.
+//! Cases of what the disk keeps: disks in memory, the journal's bytes, the spelling of entries, verdicts, archives, replicas.
 //!
 //! The cases are the steps of the files that the words name. It prints each step that gives something else than is wanted,
 //! and how many steps each file has.
@@ -11,6 +11,8 @@ mod entries;
 mod histories;
 mod journals;
 mod names;
+mod replicas;
+mod scarce;
 
 use bench::Bench;
 use case_lines::Step;

@@ -14,12 +14,14 @@ pub fn told(alloc: Global, text: &str) -> Result<String, OutOfMemory> {
     Ok(String::from_str(alloc, text)?)
 }
 
-/// A copy of some bytes; none where memory runs out.
+/// A copy of some bytes.
+pub fn copied(alloc: Global, piece: &[u8]) -> Result<Bytes, OutOfMemory> {
+    Ok(Bytes::from_vec(piece.to_vec(alloc)?))
+}
+
+/// The same; none where memory runs out.
 pub fn copy(alloc: Global, piece: &[u8]) -> Bytes {
-    match piece.to_vec(alloc) {
-        Ok(bytes) => Bytes::from_vec(bytes),
-        Err(_) => Bytes::new(alloc),
-    }
+    copied(alloc, piece).unwrap_or(Bytes::new(alloc))
 }
 
 /// What names stand for.
@@ -92,8 +94,8 @@ impl Names {
     /// Lets a name, the first word, stand for the second one. It says how many bytes these are.
     pub fn define(&mut self, words: &[Bytes]) -> Result<String, OutOfMemory> {
         self.named.push(Named {
-            name: copy(self.alloc, word(words, 0)),
-            value: copy(self.alloc, word(words, 1)),
+            name: copied(self.alloc, word(words, 0))?,
+            value: copied(self.alloc, word(words, 1))?,
         })?;
         Ok(format!(in self.alloc; "{}", word(words, 1).len())?)
     }

@@ -3,6 +3,8 @@ ghost use Rattle.std.specs.Prelude.{◌≡◌};
 
 use entry_bodies::BodyFault;
 use exact_time::OutOfMemory;
+use std::error::Error;
+use std::fmt;
 
 /// Why a body wasn't taken, or not all of it, in the order of the tests.
 #[derive(Clone, Copy, Debug, PartialEq, Eq)]
@@ -18,6 +20,25 @@ pub enum TakeFault {
     /// Memory ran out; some of the entries may have been added.
     OutOfMemory,
 }
+
+impl fmt::Display for TakeFault {
+    ghost use Rattle.std.specs.Prelude.{Some};
+    ghost use Rattle.follow_replica.specs.FaultTexts.{take_fault_text};
+
+    ghost output = { λ fault. Some (take_fault_text fault) };
+
+    fn fmt<W: fmt::Write>(&self, f: &mut fmt::Formatter<W>) -> fmt::Result {
+        match self {
+            TakeFault::Form(at) => write!(f, "Form {at}"),
+            TakeFault::Gap(number) => write!(f, "Gap {number}"),
+            TakeFault::Unlawful(number) => write!(f, "Unlawful {number}"),
+            TakeFault::DiskFault => f.write_str("the disk failed"),
+            TakeFault::OutOfMemory => f.write_str("out of memory"),
+        }
+    }
+}
+
+impl Error for TakeFault {}
 
 impl From<OutOfMemory> for TakeFault {
     ghost use Rattle.follow_replica.specs.declared.fault.TakeFault.TheVariants.{OutOfMemory as NoMemory};
