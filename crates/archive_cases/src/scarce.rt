@@ -12,7 +12,8 @@ use std::alloc::Global;
 fn entries(alloc: Global, file: &[u8]) -> Result<Option<u64>, OutOfMemory> {
     match Follower::open(alloc, disk_of(alloc, file)?) {
         Ok(follower) => Ok(Some(follower.wanted().saturating_sub(1))),
-        Err((_disk, StartFault::OutOfMemory)) => Err(OutOfMemory),
+        // A disk in memory fails where it lacks memory, and else these don't.
+        Err((_disk, StartFault::OutOfMemory | StartFault::DiskFault)) => Err(OutOfMemory),
         Err(_) => Ok(None),
     }
 }
